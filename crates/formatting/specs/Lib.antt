@@ -1,0 +1,3 @@
+pub mod Flags
+pub mod Hex
+pub mod Escape

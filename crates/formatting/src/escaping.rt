@@ -1,0 +1,80 @@
+// Hexadecimal digits, and how a byte stands between quotation marks. The Rust's bit masks and its
+// table of letters are decisions on the byte here.
+ghost use mathlib.Core.Path.{_≡_};
+ghost use Prim.Native.Nat.{_%_};
+ghost use Rattle.formatting.specs.Hex.{hexDigit};
+ghost use Rattle.formatting.specs.Escape.{escapeOf, isEscaped, isLetter};
+use crate::flags::HexFormatting;
+
+// The ASCII digit of the low four bits of n.
+pub fn hex_as_ascii(n: u8, hex_fmt: HexFormatting) -> u8
+    ensures { λ r. ⌜ r ≡ hexDigit «hex_fmt» (n % 16) ⌝ }
+{
+    let digit = n % 16;
+    if digit < 10 {
+        return b'0' + digit;
+    }
+    match hex_fmt {
+        HexFormatting::Upper => b'A' - 10 + digit,
+        HexFormatting::Lower => b'a' - 10 + digit,
+    }
+}
+
+// What stands for a byte between quotation marks.
+pub enum Escape {
+    // The byte itself.
+    Bare,
+    // A backslash and this letter.
+    Backslash(u8),
+    // `\x` and two upper hexadecimal digits.
+    Hexadecimal,
+}
+
+pub fn escape_of(b: u8) -> Escape
+    ensures { λ r. ⌜ r ≡ escapeOf b ⌝ }
+{
+    if b == b'\t' {
+        return Escape::Backslash(b't');
+    }
+    if b == b'\n' {
+        return Escape::Backslash(b'n');
+    }
+    if b == b'\r' {
+        return Escape::Backslash(b'r');
+    }
+    if b == b'\\' {
+        return Escape::Backslash(b'\\');
+    }
+    if b == b'\'' {
+        return Escape::Backslash(b'\'');
+    }
+    if b == b'"' {
+        return Escape::Backslash(b'"');
+    }
+    if b < 32 {
+        return Escape::Hexadecimal;
+    }
+    Escape::Bare
+}
+
+// Whether a byte is written as a backslash and a letter.
+pub fn is_backslash_escaped(b: u8) -> bool
+    ensures { λ r. ⌜ r ≡ isLetter (escapeOf b) ⌝ }
+{
+    match escape_of(b) {
+        Escape::Bare => false,
+        Escape::Backslash(_) => true,
+        Escape::Hexadecimal => false,
+    }
+}
+
+// Whether a byte is not written as itself.
+pub fn is_escaped(b: u8) -> bool
+    ensures { λ r. ⌜ r ≡ isEscaped (escapeOf b) ⌝ }
+{
+    match escape_of(b) {
+        Escape::Bare => false,
+        Escape::Backslash(_) => true,
+        Escape::Hexadecimal => true,
+    }
+}
