@@ -1,48 +1,36 @@
 use borrow.Author.Tests.{lt-ltb, le-ltb, eq-eqb, ne-eqb}
 use Rattle.formatting.specs.Escape.{escapeOf}
-use borrow.Author.Needs.{needs}
-use native.Mathlib.Omega.{arith}
 use Rattle.formatting.proofs.escaping.escape_of.Statement.{statement}
 use Rattle.formatting.proofs.escaping.escape_of.Tie as tie
-use Rattle.formatting.proofs.escaping.escape_of.Reads as reads
-use Rattle.formatting.proofs.escaping.escape_of.Lts as lts
 
--- src/escaping.rt:37:9
 returns : tie.Need-returns
 unfolding escapeOf
 returns c = simp (eq-eqb _ _ (c .if1 .taken))
 
--- src/escaping.rt:40:9
 returns-2 : tie.Need-returns-2
 unfolding escapeOf
 returns-2 c = simp (ne-eqb _ _ (c .before .if1 .left), eq-eqb _ _ (c .if2 .taken))
 
--- src/escaping.rt:43:9
 returns-3 : tie.Need-returns-3
 unfolding escapeOf
 returns-3 c = simp (ne-eqb _ _ (c .before .before .if1 .left), ne-eqb _ _ (c .before .if2 .left), eq-eqb _ _ (c .if3 .taken))
 
--- src/escaping.rt:46:9
 returns-4 : tie.Need-returns-4
 unfolding escapeOf
 returns-4 c = simp (ne-eqb _ _ (c .before .before .before .if1 .left), ne-eqb _ _ (c .before .before .if2 .left), ne-eqb _ _ (c .before .if3 .left), eq-eqb _ _ (c .if4 .taken))
 
--- src/escaping.rt:49:9
 returns-5 : tie.Need-returns-5
 unfolding escapeOf
 returns-5 c = simp (ne-eqb _ _ (c .before .before .before .before .if1 .left), ne-eqb _ _ (c .before .before .before .if2 .left), ne-eqb _ _ (c .before .before .if3 .left), ne-eqb _ _ (c .before .if4 .left), eq-eqb _ _ (c .if5 .taken))
 
--- src/escaping.rt:52:9
 returns-6 : tie.Need-returns-6
 unfolding escapeOf
 returns-6 c = simp (ne-eqb _ _ (c .before .before .before .before .before .if1 .left), ne-eqb _ _ (c .before .before .before .before .if2 .left), ne-eqb _ _ (c .before .before .before .if3 .left), ne-eqb _ _ (c .before .before .if4 .left), ne-eqb _ _ (c .before .if5 .left), eq-eqb _ _ (c .if6 .taken))
 
--- src/escaping.rt:55:9
 returns-7 : tie.Need-returns-7
 unfolding escapeOf
 returns-7 c = simp (ne-eqb _ _ (c .before .before .before .before .before .before .if1 .left), ne-eqb _ _ (c .before .before .before .before .before .if2 .left), ne-eqb _ _ (c .before .before .before .before .if3 .left), ne-eqb _ _ (c .before .before .before .if4 .left), ne-eqb _ _ (c .before .before .if5 .left), ne-eqb _ _ (c .before .if6 .left), lt-ltb _ _ (c .if7 .taken))
 
--- src/escaping.rt:33:1
 returns-8 : tie.Need-returns-8
 unfolding escapeOf
 returns-8 c = simp (ne-eqb _ _ (c .before .before .before .before .before .before .if1 .left), ne-eqb _ _ (c .before .before .before .before .before .if2 .left), ne-eqb _ _ (c .before .before .before .before .if3 .left), ne-eqb _ _ (c .before .before .before .if4 .left), ne-eqb _ _ (c .before .before .if5 .left), ne-eqb _ _ (c .before .if6 .left), le-ltb _ _ (c .if7 .left))

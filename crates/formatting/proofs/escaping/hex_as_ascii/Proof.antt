@@ -2,46 +2,34 @@ use borrow.Author.Tests.{lt-ltb, le-ltb}
 use borrow.Author.Needs.{needs}
 use Rattle.formatting.proofs.escaping.hex_as_ascii.Statement.{statement}
 use Rattle.formatting.proofs.escaping.hex_as_ascii.Tie as tie
-use Rattle.formatting.proofs.escaping.hex_as_ascii.Reads as reads
-use Rattle.formatting.proofs.escaping.hex_as_ascii.Lts as lts
 
--- src/escaping.rt:15:16
 add-result : tie.Need-add-result
 add-result c = search needs
 
--- src/escaping.rt:15:9
 returns : tie.Need-returns
 returns c = simp (lt-ltb _ _ (c .if1 .taken))
 
--- src/escaping.rt:18:33
 enum-told : tie.Need-enum-told
 enum-told c = search needs
 
--- src/escaping.rt:18:33
 sub-result : tie.Need-sub-result
 sub-result c = search needs
 
--- src/escaping.rt:18:33
 add-result-2 : tie.Need-add-result-2
 add-result-2 c = search needs
 
--- src/escaping.rt:19:33
 enum-told-2 : tie.Need-enum-told-2
 enum-told-2 c = search needs
 
--- src/escaping.rt:19:33
 sub-result-2 : tie.Need-sub-result-2
 sub-result-2 c = search needs
 
--- src/escaping.rt:19:33
 add-result-3 : tie.Need-add-result-3
 add-result-3 c = search needs
 
--- src/escaping.rt:10:1
 returns-2 : tie.Need-returns-2
 returns-2 c = simp (c .enum-told .given .1, le-ltb _ _ (c .before .before .if1 .left))
 
--- src/escaping.rt:10:1
 returns-3 : tie.Need-returns-3
 returns-3 c = simp (c .enum-told2 .given .1, le-ltb _ _ (c .before .before .if1 .left))
 

@@ -1,35 +1,25 @@
 use borrow.Author.Needs.{needs}
 use Rattle.formatting.proofs.escaping.is_escaped.Statement.{statement}
 use Rattle.formatting.proofs.escaping.is_escaped.Tie as tie
-use Rattle.formatting.proofs.escaping.is_escaped.Reads as reads
-use Rattle.formatting.proofs.escaping.is_escaped.Lts as lts
-use Rattle.formatting.proofs.escaping.escape_of.Reads as escape-of-reads
 
--- src/escaping.rt:75:11
 escape-of-requires : tie.Need-escape-of-requires
 escape-of-requires c κs = search needs
 
--- src/escaping.rt:76:25
 enum-told : tie.Need-enum-told
 enum-told c = search needs
 
--- src/escaping.rt:77:33
 enum-told-2 : tie.Need-enum-told-2
 enum-told-2 c = search needs
 
--- src/escaping.rt:78:32
 enum-told-3 : tie.Need-enum-told-3
 enum-told-3 c = search needs
 
--- src/escaping.rt:72:1
 returns : tie.Need-returns
 returns c = rw (← c .before .before .escape-of .ensures, c .enum-told .given .1)
 
--- src/escaping.rt:72:1
 returns-2 : tie.Need-returns-2
 returns-2 c = rw (← c .before .before .escape-of .ensures, c .enum-told2 .given .1)
 
--- src/escaping.rt:72:1
 returns-3 : tie.Need-returns-3
 returns-3 c = rw (← c .before .before .escape-of .ensures, c .enum-told3 .given .1)
 

@@ -1,0 +1,55 @@
+-- Document 01, 'Known pairs (starred ones proved)': what is written, and the bytes that the paper names.
+use mathlib.Core.Bool.{true, false}
+use mathlib.Core.Path.{_≡_}
+use mathlib.Core.List.{List, [], _∷_}
+use Prim.Native.Nat.{ℕ}
+use lib.IntN.{pos, negsuc}
+use Rattle.formatting.specs.declared.flags.FormattingFlags.{FormattingFlags}
+use Rattle.formatting.specs.declared.flags.NumberFormatting.{NumberFormatting}
+use Rattle.formatting.specs.declared.flags.NumberFormatting.the-variants.{Hexadecimal, Binary}
+use Rattle.formatting.specs.Flags.{defaultFlags, withNumFmt, withAlternate}
+use Rattle.formatting.specs.Escape.{quoted}
+use Rattle.utf8.specs.Utf8.{octets}
+use Rattle.pwrapper.specs.Number.{displayText, debugText}
+
+pub record Pair : Type 0 where
+  pub text : List ℕ
+  pub known : List ℕ
+
+-- 'Known pairs': alternate form in a base
+abbrev pub alternate : NumberFormatting → FormattingFlags
+alternate n = withAlternate (withNumFmt defaultFlags n) true
+
+-- 'Known pairs': the starred ones
+unfoldable pub pairs : List Pair
+pairs =
+    -- u8 255 `255`
+    record { text = displayText (pos 255); known = 50 ∷ 53 ∷ 53 ∷ [] }
+    -- i8 -128 `-128`
+    ∷ record { text = displayText (negsuc 127); known = 45 ∷ 49 ∷ 50 ∷ 56 ∷ [] }
+    -- i8 -1 hex alternate `0xFF`
+    ∷ record { text = debugText (alternate Hexadecimal) 8 (negsuc 0); known = 48 ∷ 120 ∷ 70 ∷ 70 ∷ [] }
+    -- 0 binary alternate `0b0`
+    ∷ record { text = debugText (alternate Binary) 8 (pos 0); known = 48 ∷ 98 ∷ 48 ∷ [] }
+    -- U+7F one byte
+    ∷ record { text = octets 0x7F; known = 0x7F ∷ [] }
+    -- U+80 C2 80
+    ∷ record { text = octets 0x80; known = 0xC2 ∷ 0x80 ∷ [] }
+    -- U+7FF DF BF
+    ∷ record { text = octets 0x7FF; known = 0xDF ∷ 0xBF ∷ [] }
+    -- U+800 E0 A0 80
+    ∷ record { text = octets 0x800; known = 0xE0 ∷ 0xA0 ∷ 0x80 ∷ [] }
+    -- U+FFFF EF BF BF
+    ∷ record { text = octets 0xFFFF; known = 0xEF ∷ 0xBF ∷ 0xBF ∷ [] }
+    -- U+10000 F0 90 80 80
+    ∷ record { text = octets 0x10000; known = 0xF0 ∷ 0x90 ∷ 0x80 ∷ 0x80 ∷ [] }
+    -- quoted `a'b` `"a\'b"`
+    ∷ record { text = quoted (97 ∷ 39 ∷ 98 ∷ []); known = 34 ∷ 97 ∷ 92 ∷ 39 ∷ 98 ∷ 34 ∷ [] }
+    -- byte 1 quoted `"\x01"`
+    ∷ record { text = quoted (1 ∷ []); known = 34 ∷ 92 ∷ 120 ∷ 48 ∷ 49 ∷ 34 ∷ [] }
+    ∷ []
+
+-- 'Known pairs': each text of a list is its known bytes
+abbrev pub Hold : List Pair → Type 0
+Hold [] = Unit
+Hold (p ∷ ps) = (p .text ≡ p .known) × Hold ps

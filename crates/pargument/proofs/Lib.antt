@@ -1,0 +1,2 @@
+pub mod IntegerLaws
+pub mod Laying

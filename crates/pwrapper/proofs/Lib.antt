@@ -1,0 +1,5 @@
+pub mod Digits
+pub mod Escapes
+pub mod Lengths
+pub mod Shortest
+pub mod Sign

@@ -1,0 +1,3 @@
+pub mod Grammar
+pub mod Ranges
+pub mod Rfc3629

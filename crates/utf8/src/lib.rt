@@ -1,0 +1,80 @@
+// Whether bytes are UTF-8, by the grammar of RFC 3629 section 4: what holds of every value of Rust's type str.
+ghost use mathlib.Core.Path.{_≡_};
+ghost use mathlib.Core.Option.{some};
+ghost use mathlib.Core.List.{List, _∷_};
+ghost use Prim.Native.Nat.{ℕ};
+ghost use Rattle.utf8.specs.Utf8.{wellFormed, continues, follow};
+ghost use Rattle.utf8.specs.Expected.{ranges};
+
+// What has to follow in a text: how many octets, and the least and the greatest value of the first of them. The others are UTF8-tail.
+struct Expected(usize, u8, u8);
+
+// Between two characters.
+const NOTHING: Expected = Expected(0, 0x80, 0xBF);
+
+// After broken text: an octet from 1 to 0, and there is none.
+const NEVER: Expected = Expected(1, 1, 0);
+
+// What has to follow the first octet of a character.
+fn after_first(a: u8) -> Expected
+    ensures { λ r. ⌜ ((s : List ℕ) → continues s (some (ranges r)) ≡ continues s (follow a)) ⌝ }
+{
+    if a < 0x80 {
+        return NOTHING;
+    }
+    if a < 0xC2 {
+        return NEVER;
+    }
+    if a < 0xE0 {
+        return Expected(1, 0x80, 0xBF);
+    }
+    if a == 0xE0 {
+        return Expected(2, 0xA0, 0xBF);
+    }
+    if a == 0xED {
+        return Expected(2, 0x80, 0x9F);
+    }
+    if a < 0xF0 {
+        return Expected(2, 0x80, 0xBF);
+    }
+    if a == 0xF0 {
+        return Expected(3, 0x90, 0xBF);
+    }
+    if a < 0xF4 {
+        return Expected(3, 0x80, 0xBF);
+    }
+    if a == 0xF4 {
+        return Expected(3, 0x80, 0x8F);
+    }
+    NEVER
+}
+
+// What has to follow where e had to follow, once the octet a has been read.
+fn after(e: Expected, a: u8) -> Expected
+    ensures { λ r. ⌜ ((s : List ℕ) → continues s (some (ranges r)) ≡ continues (a ∷ s) (some (ranges e))) ⌝ }
+{
+    let Expected(count, low, high) = e;
+    if count == 0 {
+        return after_first(a);
+    }
+    if a < low {
+        return NEVER;
+    }
+    if high < a {
+        return NEVER;
+    }
+    Expected(count - 1, 0x80, 0xBF)
+}
+
+// Whether s is well-formed UTF-8.
+pub fn is_utf8(s: &[u8]) -> bool
+    ensures { λ r. ⌜ r ≡ wellFormed (now (s .entry)) ⌝ }
+{
+    let mut expected = NOTHING;
+    let mut i = 0;
+    while i < s.len() {
+        expected = after(expected, s[i]);
+        i += 1;
+    }
+    expected.0 == 0
+}
