@@ -1,0 +1,6 @@
+pub mod Leaves
+pub mod Output
+pub mod Moves
+pub mod Track
+pub mod Agree
+pub mod Known

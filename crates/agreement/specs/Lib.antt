@@ -1,0 +1,4 @@
+pub mod Call
+pub mod Ledger
+pub mod Model
+pub mod Agreement

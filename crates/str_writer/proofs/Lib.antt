@@ -1,0 +1,10 @@
+pub mod Splice
+pub mod Outcomes
+pub mod Values
+pub mod Quoting
+pub mod Truncation
+pub mod AsciiText
+pub mod Utf8Text
+pub mod WellFormed
+pub mod Laying
+pub mod IntegerText

@@ -1,0 +1,217 @@
+-- What a value's input and range meet, and its text, a law for each, in display and debug form.
+use mathlib.Core.Bool.{true, false, _||_, and-false, or-true, false≢true}
+use mathlib.Core.Logic.{dite}
+use mathlib.Core.Option.{none, some}
+use mathlib.Core.Path.{_≡_, refl, sym, ap, _∙_}
+use mathlib.Core.List.{List, [], _∷_, _++_}
+use Prim.Native.Nat.{ℕ, _+_, _-_, _%_, _≤_, _<_, min}
+use native.Mathlib.Decide.{decLt}
+use native.Mathlib.Nat.{min-eq-left, min-le-right, le-refl, sub-zero, zero-min}
+use native.Mathlib.Omega.{arith}
+use lib.Dec.{ltb}
+use lib.ListN.{length, take, drop, replicate, length-append, length-replicate}
+use lib.Seq.{slice, take-add, take-at, drop-at, take-length, length-take-le}
+use borrow.Author.Tests.{lt-ltb, le-ltb, eq-eqb}
+use Rattle.error.specs.declared.Answer.the-variants.{Done, NotEnoughSpace, NotAscii, NotOnCharBoundary, NotUtf8, NotAChar}
+use Rattle.formatting.specs.declared.flags.FormattingFlags.{FormattingFlags}
+use Rattle.utf8.specs.Utf8.{wellFormed, continues, isScalar}
+use Rattle.utf8.proofs.Grammar.{none-low, broken}
+use Rattle.utils.specs.declared.Range.{Range}
+use Rattle.utils.specs.Text.{saturated, part, isBoundary}
+use Rattle.ascii_str.specs.declared.AsciiStr.the-variants.{Ascii, NotAsciiError}
+use Rattle.ascii_str.specs.Ascii.{asciiFrom}
+use Rattle.char_encoding.specs.declared.FmtChar.{FmtChar}
+use Rattle.char_encoding.specs.Char.{charDisplay, charDebug, fmtChar}
+use Rattle.str_writer.specs.Value.{Form, display, debug, str, ascii, char, repeated, whole, stringText, stringLeaves, textOf, inputFault, cutFault, leaves}
+use Rattle.str_writer.specs.Write.{outcome, splice, refused, placed, put, write}
+use Rattle.str_writer.proofs.Outcomes.{put-placed, put-short, put-done, write-placed, write-put}
+
+-- the whole of a text
+whole-end : (s : List ℕ) → saturated s (whole s) .end ≡ length s
+whole-end s = min-eq-left (le-refl (length s))
+
+pub whole-part : (s : List ℕ) → part s (whole s) ≡ s
+whole-part s = rw (zero-min, whole-end, take-length)
+
+-- the first octet of well-formed text is no tail
+first-boundary : (a : ℕ) (s : List ℕ) → wellFormed (a ∷ s) ≡ true → (ltb a 0x80 || ltb 0xBF a) ≡ true
+unfolding continues
+first-boundary a s e =
+    dite (decLt a 0x80) (λ h. rw (lt-ltb a 0x80 h))
+    (λ h. dite (decLt 0xBF a) (λ k. rw (lt-ltb 0xBF a k) (or-true (ltb a 0x80)))
+    (λ k. absurd (false≢true (sym (broken s) ∙ rw (none-low a (omega arith) (omega arith)) at e))))
+
+-- well-formed text has a boundary at its start, and any text at its end
+pub start-boundary : (s : List ℕ) → wellFormed s ≡ true → isBoundary s 0 ≡ true
+start-boundary [] e = refl
+start-boundary (a ∷ s) e = rw (lt-ltb 0 (length (a ∷ s)) (omega arith)) (first-boundary a s e)
+
+pub end-boundary : (s : List ℕ) → isBoundary s (length s) ≡ true
+end-boundary s = rw (le-ltb (length s) (length s) (omega arith)) (eq-eqb (length s) (length s) refl)
+
+-- what a slice of a text reads
+slice-part : (i j : ℕ) (s : List ℕ) → i ≤ j → j ≤ length s → take (j - i) (drop i s) ≡ slice i j s
+slice-part i j s h k =
+    let e : i + (j - i) ≡ j = omega arith in
+    let t : take j s ≡ take i s ++ take (j - i) (drop i s) = rw e at (take-add i (j - i) s) in
+    rw t (sym (drop-at (take i s) (take (j - i) (drop i s)) i (length-take-le i s (omega arith))))
+
+-- a clamped range is a range of the text
+module _ (s : List ℕ) (r q : Range) (e : q ≡ saturated s r) where
+  pub clamped-order : q .start ≤ q .end
+  clamped-order = rw e (min-le-right (r .start) (min (r .end) (length s)))
+
+  pub clamped-end : q .end ≤ length s
+  clamped-end = rw e (min-le-right (r .end) (length s))
+
+  pub clamped-part : take (q .end - q .start) (drop (q .start) s) ≡ part s r
+  clamped-part = slice-part (q .start) (q .end) s clamped-order clamped-end ∙ rw e
+
+module _ (m : Form) (s : List ℕ) (r : Range) where
+  pub str-fault : wellFormed s ≡ false → inputFault (str m s r) ≡ some NotUtf8
+  unfolding inputFault
+  str-fault e = rw e
+
+  pub str-fine : wellFormed s ≡ true → inputFault (str m s r) ≡ none
+  unfolding inputFault
+  str-fine e = rw e
+
+  pub str-cut-start : isBoundary s (saturated s r .start) ≡ false → cutFault (str m s r) ≡ some NotOnCharBoundary
+  unfolding cutFault
+  str-cut-start e = rw e
+
+  pub str-cut-end : isBoundary s (saturated s r .end) ≡ false → cutFault (str m s r) ≡ some NotOnCharBoundary
+  unfolding cutFault
+  str-cut-end e = rw (e, and-false)
+
+  pub str-uncut : isBoundary s (saturated s r .start) ≡ true → isBoundary s (saturated s r .end) ≡ true → cutFault (str m s r) ≡ none
+  unfolding cutFault
+  str-uncut e k = rw (e, k)
+
+  pub str-text : (f : FormattingFlags) → textOf f (str m s r) ≡ stringText m (part s r)
+  unfolding textOf
+  str-text f = refl
+
+  pub str-leaves : (n : ℕ) → leaves n (str m s r) ≡ stringLeaves m n (part s r)
+  unfolding leaves
+  str-leaves n = refl
+
+  pub ascii-fault : (i : ℕ) → asciiFrom 0 s ≡ NotAsciiError i → inputFault (ascii m s r) ≡ some NotAscii
+  unfolding inputFault
+  ascii-fault i e = rw e
+
+  pub ascii-fine : asciiFrom 0 s ≡ Ascii → inputFault (ascii m s r) ≡ none
+  unfolding inputFault
+  ascii-fine e = rw e
+
+  pub ascii-uncut : cutFault (ascii m s r) ≡ none
+  unfolding cutFault
+  ascii-uncut = refl
+
+  pub ascii-text : (f : FormattingFlags) → textOf f (ascii m s r) ≡ stringText m (part s r)
+  unfolding textOf
+  ascii-text f = refl
+
+  pub ascii-leaves : (n : ℕ) → leaves n (ascii m s r) ≡ stringLeaves m n (part s r)
+  unfolding leaves
+  ascii-leaves n = refl
+
+-- the whole of a well-formed text cuts no character
+pub whole-uncut : (m : Form) (s : List ℕ) → wellFormed s ≡ true → cutFault (str m s (whole s)) ≡ none
+whole-uncut m s e =
+    str-uncut m s (whole s)
+    (rw zero-min (start-boundary s e))
+    (rw whole-end (end-boundary s))
+
+module _ (m : Form) (c : ℕ) where
+  pub char-fault : isScalar c ≡ false → inputFault (char m c) ≡ some NotAChar
+  unfolding inputFault
+  char-fault e = rw e
+
+  pub char-fine : isScalar c ≡ true → inputFault (char m c) ≡ none
+  unfolding inputFault
+  char-fine e = rw e
+
+  pub char-uncut : cutFault (char m c) ≡ none
+  unfolding cutFault
+  char-uncut = refl
+
+  pub char-leaves : (n : ℕ) → leaves n (char m c) ≡ []
+  unfolding leaves
+  char-leaves n = refl
+
+module _ (f : FormattingFlags) (c : ℕ) where
+  pub display-text : textOf f (char display c) ≡ charDisplay c
+  unfolding textOf
+  display-text = refl
+
+  pub debug-text : textOf f (char debug c) ≡ charDebug c
+  unfolding textOf
+  debug-text = refl
+
+-- a character's text in its array
+module _ (c : ℕ) (t : List ℕ) (q : FmtChar) (e : q ≡ fmtChar c t) where
+  pub encoded-end : q .len ≤ length (q .encoded)
+  encoded-end = rw e (omega (arith, length-append t (replicate (6 - length t) 0)))
+
+  pub encoded-part : take (q .len - 0) (q .encoded) ≡ t
+  encoded-part = rw (e, sub-zero) (take-at t (replicate (6 - length t) 0) (length t) refl)
+
+module _ (c n : ℕ) where
+  pub repeated-fine : inputFault (repeated c n) ≡ none
+  unfolding inputFault
+  repeated-fine = refl
+
+  pub repeated-uncut : cutFault (repeated c n) ≡ none
+  unfolding cutFault
+  repeated-uncut = refl
+
+  pub repeated-text : (f : FormattingFlags) → textOf f (repeated c n) ≡ replicate n (c % 128)
+  unfolding textOf
+  repeated-text f = refl
+
+  pub repeated-leaves : (k : ℕ) → leaves k (repeated c n) ≡ []
+  unfolding leaves
+  repeated-leaves k = refl
+
+-- a value that meets no fault: its text, or what it leaves
+module _ (f : FormattingFlags) (b : List ℕ) (at : ℕ) (h : at ≤ length b) where
+  module _ (m : Form) (s : List ℕ) (r : Range) where
+    pub str-placed : wellFormed s ≡ true → cutFault (str m s r) ≡ none
+        → placed b at (stringText m (part s r)) (stringLeaves m (length b - at) (part s r)) ≡ write f b at (str m s r)
+    str-placed e k = rw (← str-text m s r f, ← str-leaves m s r) (write-placed f b at (str m s r) h (str-fine m s r e) k)
+
+    pub ascii-placed : asciiFrom 0 s ≡ Ascii
+        → placed b at (stringText m (part s r)) (stringLeaves m (length b - at) (part s r)) ≡ write f b at (ascii m s r)
+    ascii-placed e = rw (← ascii-text m s r f, ← ascii-leaves m s r) (write-placed f b at (ascii m s r) h (ascii-fine m s r e) (ascii-uncut m s r))
+
+  module _ (s : List ℕ) (r : Range) where
+    pub str-put : wellFormed s ≡ true → cutFault (str display s r) ≡ none → put b at (part s r) ≡ write f b at (str display s r)
+    str-put e k = sym (put-placed b at (part s r) h) ∙ str-placed display s r e k
+
+    pub ascii-put : asciiFrom 0 s ≡ Ascii → put b at (part s r) ≡ write f b at (ascii display s r)
+    ascii-put e = sym (put-placed b at (part s r) h) ∙ ascii-placed display s r e
+
+  char-put : (m : Form) (c : ℕ) → isScalar c ≡ true → put b at (textOf f (char m c)) ≡ write f b at (char m c)
+  char-put m c e = write-put f b at (char m c) h (char-fine m c e) (char-uncut m c) (char-leaves m c (length b - at))
+
+  module _ (c : ℕ) (e : isScalar c ≡ true) where
+    pub display-put : put b at (charDisplay c) ≡ write f b at (char display c)
+    display-put = rw (← display-text f c) (char-put display c e)
+
+    pub debug-put : put b at (charDebug c) ≡ write f b at (char debug c)
+    debug-put = rw (← debug-text f c) (char-put debug c e)
+
+  pub repeated-put : (c n : ℕ) → put b at (replicate n (c % 128)) ≡ write f b at (repeated c n)
+  repeated-put c n = rw (← repeated-text c n f) (write-put f b at (repeated c n) h (repeated-fine c n) (repeated-uncut c n) (repeated-leaves c n (length b - at)))
+
+  -- the repeated character, by its count
+  module _ (c n : ℕ) where
+    pub repeated-short : length b - at < n → refused NotEnoughSpace b at ≡ write f b at (repeated c n)
+    repeated-short k = put-short b at (replicate n (c % 128)) h (rw length-replicate k) ∙ repeated-put c n
+
+    pub repeated-done : n ≤ length b - at → outcome (record { at = at + n; answer = Done }) (splice b at (replicate n (c % 128))) ≡ write f b at (repeated c n)
+    repeated-done k =
+        let t = replicate n (c % 128) in
+        let l : n ≡ length t = sym (length-replicate n (c % 128)) in
+        ap (λ (j : ℕ). outcome (record { at = at + j; answer = Done }) (splice b at t)) l ∙ put-done b at t h (omega arith) ∙ repeated-put c n

@@ -1,0 +1,4 @@
+pub mod Quoted
+pub mod Value
+pub mod Write
+pub mod Truncate

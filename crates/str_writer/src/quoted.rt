@@ -1,0 +1,195 @@
+// Quoted strings and quoted ASCII text.
+ghost use mathlib.Core.Path.{_≡_};
+ghost use Prim.Native.Nat.{_+_, _-_, _≤_, _<_};
+ghost use mathlib.Core.Bool.{cond};
+ghost use mathlib.Core.List.{[], _∷_};
+ghost use lib.Dec.{ltb};
+ghost use lib.ListN.{length};
+ghost use Rattle.formatting.specs.Escape.{escapeOf, escapeText, escaped, quoted};
+ghost use Rattle.formatting.specs.Flags.{defaultFlags};
+ghost use Rattle.str_writer.specs.Quoted.{costOf, leading, quotedLeaves};
+ghost use Rattle.str_writer.specs.Value.{str, ascii, debug, whole};
+ghost use Rattle.str_writer.specs.Write.{outcome, splice, placed, write};
+use crate::piece::Written;
+use ascii_str::AsciiStr;
+use error::Answer;
+use formatting::Escape;
+use formatting::HexFormatting;
+use formatting::escape_of;
+use formatting::hex_as_ascii;
+use utf8::is_utf8;
+use utils::Range;
+use utils::is_char_boundary;
+use utils::saturate_range;
+
+pub fn write_str_debug(buf: &mut [u8], at: usize, s: &[u8]) -> Written
+    ensures { λ r. ⌜ outcome r (now (buf .exit)) ≡ write defaultFlags (now (buf .entry)) at (str debug (now (s .entry)) (whole (now (s .entry)))) ⌝ }
+{
+    if buf.len() < at {
+        return Written {
+            at,
+            answer: Answer::BadCursor,
+        };
+    }
+    if !is_utf8(s) {
+        return Written {
+            at,
+            answer: Answer::NotUtf8,
+        };
+    }
+    put_quoted(buf, at, s)
+}
+
+pub fn write_str_range_debug(buf: &mut [u8], at: usize, s: &[u8], range: Range) -> Written
+    ensures { λ r. ⌜ outcome r (now (buf .exit)) ≡ write defaultFlags (now (buf .entry)) at (str debug (now (s .entry)) range) ⌝ }
+{
+    if buf.len() < at {
+        return Written {
+            at,
+            answer: Answer::BadCursor,
+        };
+    }
+    if !is_utf8(s) {
+        return Written {
+            at,
+            answer: Answer::NotUtf8,
+        };
+    }
+    let clamped = saturate_range(s, range);
+    let start = clamped.start;
+    let end = clamped.end;
+    if !is_char_boundary(s, start) {
+        return Written {
+            at,
+            answer: Answer::NotOnCharBoundary,
+        };
+    }
+    if !is_char_boundary(s, end) {
+        return Written {
+            at,
+            answer: Answer::NotOnCharBoundary,
+        };
+    }
+    put_quoted(buf, at, &s[start..end])
+}
+
+pub fn write_ascii_debug(buf: &mut [u8], at: usize, s: &[u8]) -> Written
+    ensures { λ r. ⌜ outcome r (now (buf .exit)) ≡ write defaultFlags (now (buf .entry)) at (ascii debug (now (s .entry)) (whole (now (s .entry)))) ⌝ }
+{
+    if buf.len() < at {
+        return Written {
+            at,
+            answer: Answer::BadCursor,
+        };
+    }
+    let checked = AsciiStr::new(s);
+    if let AsciiStr::NotAsciiError { invalid_from: _ } = checked {
+        return Written {
+            at,
+            answer: Answer::NotAscii,
+        };
+    }
+    put_quoted(buf, at, s)
+}
+
+pub fn write_ascii_range_debug(buf: &mut [u8], at: usize, s: &[u8], range: Range) -> Written
+    ensures { λ r. ⌜ outcome r (now (buf .exit)) ≡ write defaultFlags (now (buf .entry)) at (ascii debug (now (s .entry)) range) ⌝ }
+{
+    if buf.len() < at {
+        return Written {
+            at,
+            answer: Answer::BadCursor,
+        };
+    }
+    let checked = AsciiStr::new(s);
+    if let AsciiStr::NotAsciiError { invalid_from: _ } = checked {
+        return Written {
+            at,
+            answer: Answer::NotAscii,
+        };
+    }
+    let clamped = saturate_range(s, range);
+    let start = clamped.start;
+    let end = clamped.end;
+    put_quoted(buf, at, &s[start..end])
+}
+
+// Writes s between marks, or leaves what the escapes reach before one overspends.
+fn put_quoted(buf: &mut [u8], at: usize, s: &[u8]) -> Written
+    requires { ⌜ at ≤ length (now buf) ⌝ }
+    ensures { λ r. ⌜ outcome r (now (buf .exit)) ≡ placed (now (buf .entry)) at (quoted (now (s .entry))) (quotedLeaves (length (now (buf .entry)) - at) (now (s .entry))) ⌝ }
+{
+    let room = buf.len() - at;
+    if room < s.len() + 2 {
+        return Written {
+            at,
+            answer: Answer::NotEnoughSpace,
+        };
+    }
+    buf[at] = b'"';
+    let end = put_escaped(buf, at + 1, s, room - (s.len() + 2));
+    if end == 0 {
+        return Written {
+            at,
+            answer: Answer::NotEnoughSpace,
+        };
+    }
+    buf[end] = b'"';
+    Written {
+        at: end + 1,
+        answer: Answer::Done,
+    }
+}
+
+// Writes the bytes of s at w, where left may be spent on escapes. The place after them, or 0 where
+// an escape overspends: then the bytes up to its backslash are there.
+fn put_escaped(buf: &mut [u8], w: usize, s: &[u8], left: usize) -> usize
+    requires { ⌜ (1 ≤ w) × (w + length (now s) + left < length (now buf)) ⌝ }
+    ensures { λ r. ⌜ (r ≡ cond (ltb (length (now (s .entry)) + left) (length (escaped (now (s .entry))))) 0 (w + length (escaped (now (s .entry))))) × (now (buf .exit) ≡ splice (now (buf .entry)) w (leading left (now (s .entry)))) ⌝ }
+{
+    let mut at = w;
+    let mut rest = left;
+    let mut i = 0;
+    while i < s.len() {
+        let len = put_escape(buf, at, s[i], rest);
+        if len == 0 {
+            return 0;
+        }
+        at += len;
+        rest -= len - 1;
+        i += 1;
+    }
+    at
+}
+
+// Writes the text of b at w and gives its length, or a backslash and 0 where its escape needs more
+// than left.
+fn put_escape(buf: &mut [u8], w: usize, b: u8, left: usize) -> usize
+    requires { ⌜ w + left < length (now buf) ⌝ }
+    ensures { λ r. ⌜ (r ≡ cond (ltb left (costOf b)) 0 (length (escapeText (escapeOf b) b))) × (now (buf .exit) ≡ splice (now (buf .entry)) w (cond (ltb left (costOf b)) (92 ∷ []) (escapeText (escapeOf b) b))) ⌝ }
+{
+    match escape_of(b) {
+        Escape::Bare => {
+            buf[w] = b;
+            1
+        }
+        Escape::Backslash(letter) => {
+            buf[w] = b'\\';
+            if left < 1 {
+                return 0;
+            }
+            buf[w + 1] = letter;
+            2
+        }
+        Escape::Hexadecimal => {
+            buf[w] = b'\\';
+            if left < 3 {
+                return 0;
+            }
+            buf[w + 1] = b'x';
+            buf[w + 2] = hex_as_ascii(b / 16, HexFormatting::Upper);
+            buf[w + 3] = hex_as_ascii(b % 16, HexFormatting::Upper);
+            4
+        }
+    }
+}
