@@ -1,0 +1,326 @@
+// The calls of a run on the small part of a formatter, its stack of open entries and the buffer,
+// each lent: what a call does not touch is not copied.
+ghost use mathlib.Core.Path.{_≡_};
+ghost use mathlib.Core.List.{[]};
+ghost use Prim.Native.Nat.{_-_, _≤_, _<_};
+ghost use lib.ListN.{length, getD};
+ghost use Rattle.agreement.specs.Call.{openFault, nameOf, opens, place, value, finish, sub, endsub};
+ghost use Rattle.agreement.specs.Model.{step, readyTop};
+ghost use Rattle.writer_backend.specs.Pieces.{placeOf};
+ghost use Rattle.writer_backend.specs.Values.{valueOf};
+ghost use Rattle.formatter.specs.Entries.{entryOf};
+ghost use Rattle.formatter.specs.View.{stackOf, depthOf, view, viewOut};
+use crate::entries::pack;
+use crate::entries::unpack;
+use agreement::Entry;
+use agreement::Kind;
+use formatting::FormattingFlags;
+use writer_backend::PVariant;
+use writer_backend::Spot;
+use writer_backend::WriterBackend;
+use writer_backend::Wrote;
+use writer_backend::close;
+use writer_backend::is_name;
+use writer_backend::past;
+use writer_backend::place_fault;
+use writer_backend::place_pieces;
+use writer_backend::put_name;
+use writer_backend::put_value;
+
+// A formatter without its stack: where the text goes, the flags in force, the margin, and how many
+// entries are open.
+pub struct Head {
+    pub mode: WriterBackend,
+    pub flags: FormattingFlags,
+    pub margin: u16,
+    pub depth: usize,
+}
+
+// What a call answers, by document 01's number, and the formatter then.
+pub struct HStep {
+    pub answer: u8,
+    pub head: Head,
+}
+
+// How many places of the stack are open.
+fn depth_of(d: usize) -> usize
+    ensures { λ r. ⌜ (r ≡ depthOf d) × (r ≤ 64) ⌝ }
+{
+    if d <= 64 {
+        return d;
+    }
+    64
+}
+
+// Whether a write or an opening suits: the innermost entry is no builder without a field.
+fn ready(stack: &[u32], d: usize) -> bool
+    requires { ⌜ d ≤ length (now stack) ⌝ }
+    ensures { λ r. ⌜ r ≡ readyTop (stackOf (now (stack .entry)) d) ⌝ }
+{
+    if d == 0 {
+        return true;
+    }
+    let i = d - 1;
+    let e = unpack(stack[i]);
+    match e {
+        Entry::Builder(_, has, _) => has,
+        Entry::Outer(_, _) => true,
+    }
+}
+
+// The entry at a place of the stack.
+fn entry_in(stack: &[u32], i: usize) -> Entry
+    requires { ⌜ i < length (now stack) ⌝ }
+    ensures { λ r. ⌜ r ≡ entryOf (getD (now (stack .entry)) i 0) ⌝ }
+{
+    unpack(stack[i])
+}
+
+// A field or an entry.
+pub fn place_at(h: Head, stack: &mut [u32; 64], buf: &mut [u8], p: Spot, name: &[u8]) -> HStep
+    ensures { λ r. ⌜ viewOut r (now (stack .exit)) (now (buf .exit)) ≡ step (view h (now (stack .entry)) (now (buf .entry))) (place (placeOf p (now (name .entry)))) ⌝ }
+{
+    let mode = h.mode;
+    let over = past(mode, buf);
+    if over != 0 {
+        return HStep {
+            answer: over,
+            head: h,
+        };
+    }
+    let d = depth_of(h.depth);
+    if d == 0 {
+        return HStep { answer: 8, head: h };
+    }
+    let i = d - 1;
+    let e = entry_in(stack, i);
+    match e {
+        Entry::Outer(_, _) => HStep { answer: 8, head: h },
+        Entry::Builder(k, has, held) => {
+            let fault = place_fault(p, k, name);
+            if fault != 0 {
+                return HStep {
+                    answer: fault,
+                    head: h,
+                };
+            }
+            let flags = h.flags;
+            let margin = h.margin;
+            let t = Wrote { answer: held, mode };
+            let w = place_pieces(t, buf, k, has, flags.is_alternate, margin as usize, p, name);
+            stack[i] = pack(Entry::Builder(k, true, w.answer));
+            let after = w.mode;
+            HStep {
+                answer: 0,
+                head: Head {
+                    mode: after,
+                    flags,
+                    margin,
+                    depth: d,
+                },
+            }
+        }
+    }
+}
+
+fn lower(margin: u16) -> u16
+    ensures { λ r. ⌜ r ≡ margin - 4 ⌝ }
+{
+    if margin < 4 { 0 } else { margin - 4 }
+}
+
+pub fn finish_at(h: Head, stack: &mut [u32; 64], buf: &mut [u8]) -> HStep
+    ensures { λ r. ⌜ viewOut r (now (stack .exit)) (now (buf .exit)) ≡ step (view h (now (stack .entry)) (now (buf .entry))) finish ⌝ }
+{
+    let mode = h.mode;
+    let over = past(mode, buf);
+    if over != 0 {
+        return HStep {
+            answer: over,
+            head: h,
+        };
+    }
+    let d = depth_of(h.depth);
+    if d == 0 {
+        return HStep { answer: 8, head: h };
+    }
+    let i = d - 1;
+    let e = entry_in(stack, i);
+    match e {
+        Entry::Outer(_, _) => HStep { answer: 8, head: h },
+        Entry::Builder(k, has, held) => {
+            let flags = h.flags;
+            let margin = h.margin;
+            if held != 0 {
+                return HStep {
+                    answer: held,
+                    head: Head {
+                        mode,
+                        flags,
+                        margin,
+                        depth: i,
+                    },
+                };
+            }
+            let low = lower(margin);
+            let w = close(mode, buf, k, has, flags.is_alternate, low as usize);
+            let after = w.mode;
+            HStep {
+                answer: w.answer,
+                head: Head {
+                    mode: after,
+                    flags,
+                    margin: low,
+                    depth: i,
+                },
+            }
+        }
+    }
+}
+
+// 8, then 7, then 4.
+fn open_fault(stack: &[u32], d: usize, margin: u16, k: Kind, name: &[u8]) -> u8
+    requires { ⌜ d ≤ length (now stack) ⌝ }
+    ensures { λ r. ⌜ r ≡ openFault (readyTop (stackOf (now (stack .entry)) d)) d margin (nameOf k (now (name .entry))) ⌝ }
+{
+    if !ready(stack, d) {
+        return 8;
+    }
+    if 64 <= d {
+        return 7;
+    }
+    if 65531 < margin {
+        return 7;
+    }
+    if !is_name(k, name) {
+        return 4;
+    }
+    0
+}
+
+pub fn open_at(h: Head, stack: &mut [u32; 64], buf: &mut [u8], k: Kind, name: &[u8]) -> HStep
+    ensures { λ r. ⌜ viewOut r (now (stack .exit)) (now (buf .exit)) ≡ step (view h (now (stack .entry)) (now (buf .entry))) (opens k (now (name .entry))) ⌝ }
+{
+    let mode = h.mode;
+    let over = past(mode, buf);
+    if over != 0 {
+        return HStep {
+            answer: over,
+            head: h,
+        };
+    }
+    let d = depth_of(h.depth);
+    let margin = h.margin;
+    let fault = open_fault(stack, d, margin, k, name);
+    if fault != 0 {
+        return HStep {
+            answer: fault,
+            head: h,
+        };
+    }
+    let w = put_name(mode, buf, k, name);
+    stack[d] = pack(Entry::Builder(k, false, w.answer));
+    let flags = h.flags;
+    let after = w.mode;
+    HStep {
+        answer: 0,
+        head: Head {
+            mode: after,
+            flags,
+            margin: margin + 4,
+            depth: d + 1,
+        },
+    }
+}
+
+pub fn sub_at(h: Head, stack: &mut [u32; 64], buf: &[u8], g: FormattingFlags) -> HStep
+    ensures { λ r. ⌜ viewOut r (now (stack .exit)) (now (buf .entry)) ≡ step (view h (now (stack .entry)) (now (buf .entry))) (sub g) ⌝ }
+{
+    let mode = h.mode;
+    let over = past(mode, buf);
+    if over != 0 {
+        return HStep {
+            answer: over,
+            head: h,
+        };
+    }
+    let d = depth_of(h.depth);
+    if !ready(stack, d) {
+        return HStep { answer: 8, head: h };
+    }
+    if 64 <= d {
+        return HStep { answer: 7, head: h };
+    }
+    let flags = h.flags;
+    let margin = h.margin;
+    stack[d] = pack(Entry::Outer(flags, margin));
+    HStep {
+        answer: 0,
+        head: Head {
+            mode,
+            flags: g,
+            margin,
+            depth: d + 1,
+        },
+    }
+}
+
+pub fn endsub_at(h: Head, stack: &[u32; 64], buf: &[u8]) -> HStep
+    ensures { λ r. ⌜ viewOut r (now (stack .entry)) (now (buf .entry)) ≡ step (view h (now (stack .entry)) (now (buf .entry))) endsub ⌝ }
+{
+    let mode = h.mode;
+    let over = past(mode, buf);
+    if over != 0 {
+        return HStep {
+            answer: over,
+            head: h,
+        };
+    }
+    let d = depth_of(h.depth);
+    if d == 0 {
+        return HStep { answer: 8, head: h };
+    }
+    let i = d - 1;
+    let e = entry_in(stack, i);
+    match e {
+        Entry::Builder(_, _, _) => HStep { answer: 8, head: h },
+        Entry::Outer(flags, margin) => HStep {
+            answer: 0,
+            head: Head {
+                mode,
+                flags,
+                margin,
+                depth: i,
+            },
+        },
+    }
+}
+
+// A value, whose text is lent beside it.
+pub fn value_at(h: Head, stack: &[u32; 64], buf: &mut [u8], v: PVariant, s: &[u8]) -> HStep
+    ensures { λ r. ⌜ viewOut r (now (stack .entry)) (now (buf .exit)) ≡ step (view h (now (stack .entry)) (now (buf .entry))) (value (valueOf v (now (s .entry)))) ⌝ }
+{
+    let mode = h.mode;
+    let over = past(mode, buf);
+    if over != 0 {
+        return HStep {
+            answer: over,
+            head: h,
+        };
+    }
+    if !ready(stack, depth_of(h.depth)) {
+        return HStep { answer: 8, head: h };
+    }
+    let flags = h.flags;
+    let w = put_value(mode, flags, buf, v, s);
+    let after = w.mode;
+    HStep {
+        answer: w.answer,
+        head: Head {
+            mode: after,
+            flags,
+            margin: h.margin,
+            depth: h.depth,
+        },
+    }
+}

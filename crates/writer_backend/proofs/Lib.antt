@@ -1,0 +1,3 @@
+pub mod Output
+pub mod Sequence
+pub mod ValueLaws

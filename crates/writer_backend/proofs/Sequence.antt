@@ -1,0 +1,98 @@
+-- Pieces one after another: to the first refusal, or each tried with the first refusal held.
+use mathlib.Core.Bool.{Bool, true, false}
+use mathlib.Core.Path.{_≡_, refl, sym, _∙_}
+use mathlib.Core.List.{List, [], _∷_}
+use Prim.Native.Nat.{ℕ, zero, suc}
+use Rattle.agreement.specs.declared.Kind.{Kind}
+use Rattle.agreement.specs.declared.Kind.the-variants.{Struct, Tuple, List as ListKind, Set}
+use Rattle.agreement.specs.Call.{Place, suits, emptyClose, plainClose, commaLine, bracket, spaces}
+use Rattle.agreement.specs.Ledger.{separator}
+use Rattle.agreement.specs.Model.{Dev, Put, put, hold, goOn, tries, stops, closePieces, placePieces, labelPieces}
+use Rattle.writer_backend.specs.declared.record.Spot.{Spot}
+use Rattle.writer_backend.specs.declared.record.Spot.the-variants.{Field, Item}
+use Rattle.writer_backend.specs.declared.record.Spot.the-variants as spot
+use Rattle.writer_backend.specs.Pieces.{tryOn, tryAll, placeOf}
+
+pub held : (h a : ℕ) → (h ≡ 0 → ⊥) → h ≡ hold h a
+held zero a q = absurd (q refl)
+held (suc h) a q = refl
+
+-- to the first refusal: one piece, a piece that is done, a piece that is refused
+stops-one : (d : Dev) (s : List ℕ) → stops d (s ∷ []) ≡ put d s
+stops-one d s = go (put d s) (put d s .answer) refl
+  where
+    go : (r : Put) (a : ℕ) → r .answer ≡ a → goOn a r (record { answer = 0; dev = r .dev }) ≡ r
+    go r zero e = λ i. record { answer = sym e i; dev = r .dev }
+    go r (suc a) e = refl
+
+stops-on : (d : Dev) (s : List ℕ) (ss : List (List ℕ)) (r : Put) → r ≡ put d s → r .answer ≡ 0 → stops d (s ∷ ss) ≡ stops (r .dev) ss
+stops-on d s ss r e q = rw (← e, q)
+
+stops-at : (d : Dev) (s : List ℕ) (ss : List (List ℕ)) (r : Put) → r ≡ put d s → (r .answer ≡ 0 → ⊥) → stops d (s ∷ ss) ≡ r
+stops-at d s ss r e q = rw (← e) (go (r .answer) q)
+  where
+    go : (a : ℕ) → (a ≡ 0 → ⊥) → goOn a r (stops (r .dev) ss) ≡ r
+    go zero h = absurd (h refl)
+    go (suc a) h = refl
+
+module _ (d : Dev) (k : Kind) (n : ℕ) where
+  pub close-empty : (alt : Bool) (s : List ℕ) (r : Put) → r ≡ put d s → s ≡ emptyClose k → r ≡ stops d (closePieces k false alt n)
+  close-empty alt s r e q = e ∙ rw q (sym (stops-one d (emptyClose k)))
+
+  pub close-plain : (s : List ℕ) (r : Put) → r ≡ put d s → s ≡ plainClose k → r ≡ stops d (closePieces k true false n)
+  close-plain s r e q = e ∙ rw q (sym (stops-one d (plainClose k)))
+
+  module _ (r₁ : Put) (e₁ : r₁ ≡ put d commaLine) where
+    pub close-first : (r₁ .answer ≡ 0 → ⊥) → r₁ ≡ stops d (closePieces k true true n)
+    close-first q = sym (stops-at d commaLine (spaces n ∷ bracket k ∷ []) r₁ e₁ q)
+
+    module _ (q₁ : r₁ .answer ≡ 0) (r₂ : Put) (e₂ : r₂ ≡ put (r₁ .dev) (spaces n)) where
+      pub close-second : (r₂ .answer ≡ 0 → ⊥) → r₂ ≡ stops d (closePieces k true true n)
+      close-second q₂ =
+          sym (stops-at (r₁ .dev) (spaces n) (bracket k ∷ []) r₂ e₂ q₂)
+          ∙ sym (stops-on d commaLine (spaces n ∷ bracket k ∷ []) r₁ e₁ q₁)
+
+      pub close-last : (s : List ℕ) (r₃ : Put) → r₂ .answer ≡ 0 → s ≡ bracket k → r₃ ≡ put (r₂ .dev) s → r₃ ≡ stops d (closePieces k true true n)
+      close-last s r₃ q₂ h e₃ =
+          e₃ ∙ rw h (sym (stops-one (r₂ .dev) (bracket k)))
+          ∙ sym (stops-on (r₁ .dev) (spaces n) (bracket k ∷ []) r₂ e₂ q₂)
+          ∙ sym (stops-on d commaLine (spaces n ∷ bracket k ∷ []) r₁ e₁ q₁)
+
+hold-hold : (a b c : ℕ) → hold (hold a b) c ≡ hold a (hold b c)
+hold-hold zero b c = refl
+hold-hold (suc a) b c = refl
+
+hold-zero : (a : ℕ) → hold a 0 ≡ a
+hold-zero zero = refl
+hold-zero (suc a) = refl
+
+-- one piece, tried
+pub tries-one : (d : Dev) (s : List ℕ) → put d s ≡ tries d (s ∷ [])
+tries-one d s = λ i. record { answer = sym (hold-zero (put d s .answer)) i; dev = put d s .dev }
+
+-- a spot suits a builder by its kind alone
+pub suits-any : (p : Spot) (s : List ℕ) (k : Kind) → suits (placeOf p s) k ≡ suits (placeOf p []) k
+suits-any Field s Struct = refl
+suits-any Field s Tuple = refl
+suits-any Field s ListKind = refl
+suits-any Field s Set = refl
+suits-any Item s k = refl
+suits-any spot.Entry s k = refl
+
+-- what goes before a field or an entry, by form
+module _ (k : Kind) (n : ℕ) (x : Place) where
+  pub pieces-alternate : (has alt : Bool) → alt ≡ true → placePieces k has alt n x ≡ separator k has alt ∷ spaces n ∷ labelPieces x
+  pieces-alternate true alt e = rw e
+  pieces-alternate false alt e = rw e
+
+  pub pieces-plain : (has alt : Bool) → alt ≡ false → placePieces k has alt n x ≡ separator k has alt ∷ labelPieces x
+  pieces-plain true alt e = rw e
+  pieces-plain false alt e = rw e
+
+-- pieces tried from a refusal already held are the model's, with that refusal first
+pub tried : (a : ℕ) (d : Dev) (ss : List (List ℕ)) → tryAll (record { answer = a; dev = d }) ss ≡ record { answer = hold a (tries d ss .answer); dev = tries d ss .dev }
+unfolding tryOn
+tried a d [] = λ i. record { answer = sym (hold-zero a) i; dev = d }
+tried a d (s ∷ ss) =
+    tried (hold a (put d s .answer)) (put d s .dev) ss
+    ∙ λ i. record { answer = hold-hold a (put d s .answer) (tries (put d s .dev) ss .answer) i; dev = tries (put d s .dev) ss .dev }

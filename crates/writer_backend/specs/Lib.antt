@@ -1,0 +1,4 @@
+pub mod Output
+pub mod Pieces
+pub mod Words
+pub mod Values

@@ -1,0 +1,29 @@
+-- Pieces tried one after another from a refusal already held, and the place that a field or an entry is.
+use mathlib.Core.Bool.{cond}
+use mathlib.Core.List.{List, [], _∷_}
+use Prim.Native.Nat.{ℕ}
+use Rattle.agreement.specs.declared.Kind.{Kind}
+use Rattle.agreement.specs.Call.{Place, field, item, entry, suits, placeName, nameFault}
+use Rattle.agreement.specs.Model.{Put, put, hold}
+use Rattle.writer_backend.specs.declared.record.Spot.{Spot}
+use Rattle.writer_backend.specs.declared.record.Spot.the-variants.{Field, Item}
+use Rattle.writer_backend.specs.declared.record.Spot.the-variants as spot
+
+-- Document 01, 'A nested record', field or entry: one piece more; the builder holds the first refusal
+unfoldable pub tryOn : Put → List ℕ → Put
+tryOn p s = let a = put (p .dev) s in record { answer = hold (p .answer) (a .answer); dev = a .dev }
+
+-- Document 01, 'A nested record', field or entry: each piece is tried even after one is refused
+abbrev pub tryAll : Put → List (List ℕ) → Put
+tryAll p [] = p
+tryAll p (s ∷ ss) = tryAll (tryOn p s) ss
+
+-- the place that a spot and a name are
+abbrev pub placeOf : Spot → List ℕ → Place
+placeOf Field s = field s
+placeOf Item s = item
+placeOf spot.Entry s = entry
+
+-- Document 01, 'A nested record', 8: a field or entry of the wrong kind; then 4
+abbrev pub placeFault : Place → Kind → ℕ
+placeFault x k = cond (suits x k) (nameFault (placeName x)) 8

@@ -1,0 +1,47 @@
+-- The value that a PVariant and the text lent beside it are, and what it answers.
+use mathlib.Core.List.{List}
+use Prim.Native.Nat.{ℕ, zero, suc}
+use lib.IntN.{pos}
+use Rattle.formatting.specs.declared.flags.FormattingFlags.{FormattingFlags}
+use Rattle.str_writer.specs.Value.{Form, display, debug, Value, integer, char, str, ascii, repeated}
+use Rattle.agreement.specs.Call.{valueFault, cutNumber}
+use Rattle.agreement.specs.Model.{Dev, Put, putValue, hold, cutIn, beyond}
+use Rattle.writer_backend.specs.declared.pieces.WriterBackend.{WriterBackend}
+use Rattle.writer_backend.specs.declared.value.Form as code
+use Rattle.writer_backend.specs.declared.value.Form.the-variants.{Display, Debug}
+use Rattle.writer_backend.specs.declared.value.Width.{Width}
+use Rattle.writer_backend.specs.declared.value.Width.the-variants.{W8, W16, W32, W64}
+use Rattle.writer_backend.specs.declared.value.PVariant.{PVariant}
+use Rattle.writer_backend.specs.declared.value.PVariant.the-variants.{Unsigned, Signed, Char, Str, Ascii, Repeated}
+use Rattle.writer_backend.specs.Output.{modeOf, devOf}
+
+-- Document 01, 'A nested record': display or debug
+abbrev pub formOf : code.Form → Form
+formOf Display = display
+formOf Debug = debug
+
+-- Document 01, 'A number': 8, 16, 32, 64 bits
+abbrev pub bitsOf : Width → ℕ
+bitsOf W8 = 8
+bitsOf W16 = 16
+bitsOf W32 = 32
+bitsOf W64 = 64
+
+-- Document 01, 'A nested record': any number, character, string, ASCII or repeated-character write, display or debug
+abbrev pub valueOf : PVariant → List ℕ → Value
+valueOf (Unsigned m w n) s = integer (formOf m) (bitsOf w) (pos n)
+valueOf (Signed m w x) s = integer (formOf m) (bitsOf w) x
+valueOf (Char m c) s = char (formOf m) c
+valueOf (Str m r) s = str (formOf m) s r
+valueOf (Ascii m r) s = ascii (formOf m) s r
+valueOf (Repeated c n) s = repeated c n
+
+-- Document 01, 'The answer to a call': a value that meets a fault is refused with it, and nothing changes
+abbrev pub unlessFault : ℕ → Dev → Put → Put
+unlessFault zero d p = p
+unlessFault (suc a) d p = record { answer = suc a; dev = d }
+
+-- Document 01, 'The answer to a call', order: 9, then 2, 4 or 5, then 3 in writing, then 6 or 1
+unfoldable pub valueOut : WriterBackend → List ℕ → FormattingFlags → Value → Put
+valueOut w b f v =
+    unlessFault (hold (beyond (modeOf w) b) (hold (valueFault v) (cutIn (modeOf w) (cutNumber v)))) (devOf w b) (putValue (devOf w b) f v)

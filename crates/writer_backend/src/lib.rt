@@ -1,0 +1,24 @@
+// Where a formatter's text goes (the WriterBackend of fmt/formatter.rs): a total, or a cursor into
+// the buffer that is lent beside it. The Rust's enum holds references; here it is two numbers.
+mod pieces;
+mod record;
+mod value;
+mod words;
+
+pub use pieces::WriterBackend;
+pub use pieces::Wrote;
+pub use pieces::first;
+pub use pieces::past;
+pub use pieces::put;
+pub use pieces::put_spaces;
+pub use record::Spot;
+pub use record::close;
+pub use record::is_name;
+pub use record::place_fault;
+pub use record::place_pieces;
+pub use record::put_name;
+pub use value::Form;
+pub use value::PVariant;
+pub use value::Width;
+pub use value::put_value;
+pub use words::Word;

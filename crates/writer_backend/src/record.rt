@@ -1,0 +1,157 @@
+// The pieces of an opening, of a field or an entry, and of a finish.
+ghost use mathlib.Core.Path.{_≡_};
+ghost use mathlib.Core.List.{[]};
+ghost use Rattle.utf8.specs.Utf8.{wellFormed};
+ghost use Rattle.agreement.specs.Call.{nameOf, placeName, suits};
+ghost use Rattle.agreement.specs.Model.{stops, tries, closePieces, placePieces, labelPieces, namePieces};
+ghost use Rattle.writer_backend.specs.Output.{devOf, putOut};
+ghost use Rattle.writer_backend.specs.Pieces.{tryAll, placeOf, placeFault};
+use crate::pieces::WriterBackend;
+use crate::pieces::Wrote;
+use crate::pieces::put;
+use crate::pieces::put_spaces;
+use crate::pieces::put_word;
+use crate::pieces::try_put;
+use crate::pieces::try_spaces;
+use crate::pieces::try_word;
+use crate::words::bracket_of;
+use crate::words::empty_close;
+use crate::words::plain_close;
+use crate::words::separator_of;
+use agreement::Kind;
+use utf8::is_utf8;
+
+// Where a separator goes: before a field of a struct, one of a tuple, an entry of a list or a set.
+pub enum Spot {
+    Field,
+    Item,
+    Entry,
+}
+
+// The closing of a builder, piece by piece, to the first refusal.
+pub fn close(m: WriterBackend, buf: &mut [u8], k: Kind, has: bool, alt: bool, n: usize) -> Wrote
+    ensures { λ r. ⌜ putOut r (now (buf .exit)) ≡ stops (devOf m (now (buf .entry))) (closePieces k has alt n) ⌝ }
+{
+    if !has {
+        return put_word(m, buf, empty_close(k));
+    }
+    if !alt {
+        return put_word(m, buf, plain_close(k));
+    }
+    let a = put(m, buf, b",\n");
+    if a.answer != 0 {
+        return a;
+    }
+    let am = a.mode;
+    let d = put_spaces(am, buf, n);
+    if d.answer != 0 {
+        return d;
+    }
+    let dm = d.mode;
+    put_word(dm, buf, bracket_of(k))
+}
+
+// The name of a struct or a tuple.
+pub fn put_name(m: WriterBackend, buf: &mut [u8], k: Kind, name: &[u8]) -> Wrote
+    ensures { λ r. ⌜ putOut r (now (buf .exit)) ≡ tries (devOf m (now (buf .entry))) (namePieces k (now (name .entry))) ⌝ }
+{
+    match k {
+        Kind::Struct => put(m, buf, name),
+        Kind::Tuple => put(m, buf, name),
+        Kind::List => Wrote { answer: 0, mode: m },
+        Kind::Set => Wrote { answer: 0, mode: m },
+    }
+}
+
+pub fn is_name(k: Kind, name: &[u8]) -> bool
+    ensures { λ r. ⌜ r ≡ wellFormed (nameOf k (now (name .entry))) ⌝ }
+{
+    match k {
+        Kind::Struct => is_utf8(name),
+        Kind::Tuple => is_utf8(name),
+        Kind::List => true,
+        Kind::Set => true,
+    }
+}
+
+fn spot_suits(p: Spot, k: Kind) -> bool
+    ensures { λ r. ⌜ r ≡ suits (placeOf p []) k ⌝ }
+{
+    match p {
+        Spot::Field => match k {
+            Kind::Struct => true,
+            Kind::Tuple => false,
+            Kind::List => false,
+            Kind::Set => false,
+        },
+        Spot::Item => match k {
+            Kind::Struct => false,
+            Kind::Tuple => true,
+            Kind::List => false,
+            Kind::Set => false,
+        },
+        Spot::Entry => match k {
+            Kind::Struct => false,
+            Kind::Tuple => false,
+            Kind::List => true,
+            Kind::Set => true,
+        },
+    }
+}
+
+pub fn is_label(p: Spot, name: &[u8]) -> bool
+    ensures { λ r. ⌜ r ≡ wellFormed (placeName (placeOf p (now (name .entry)))) ⌝ }
+{
+    match p {
+        Spot::Field => is_utf8(name),
+        Spot::Item => true,
+        Spot::Entry => true,
+    }
+}
+
+// 8, then 4.
+pub fn place_fault(p: Spot, k: Kind, name: &[u8]) -> u8
+    ensures { λ r. ⌜ r ≡ placeFault (placeOf p (now (name .entry))) k ⌝ }
+{
+    if !spot_suits(p, k) {
+        return 8;
+    }
+    if !is_label(p, name) {
+        return 4;
+    }
+    0
+}
+
+fn label(t: Wrote, buf: &mut [u8], p: Spot, name: &[u8]) -> Wrote
+    ensures { λ r. ⌜ putOut r (now (buf .exit)) ≡ tryAll (putOut t (now (buf .entry))) (labelPieces (placeOf p (now (name .entry)))) ⌝ }
+{
+    match p {
+        Spot::Field => {
+            let a = try_put(t, buf, name);
+            try_put(a, buf, b": ")
+        }
+        Spot::Item => t,
+        Spot::Entry => t,
+    }
+}
+
+// What goes before a field or an entry, each piece tried, from what was held.
+pub fn place_pieces(
+    t: Wrote,
+    buf: &mut [u8],
+    k: Kind,
+    has: bool,
+    alt: bool,
+    n: usize,
+    p: Spot,
+    name: &[u8],
+) -> Wrote
+    ensures { λ r. ⌜ putOut r (now (buf .exit)) ≡ tryAll (putOut t (now (buf .entry))) (placePieces k has alt n (placeOf p (now (name .entry)))) ⌝ }
+{
+    let a = try_word(t, buf, separator_of(k, has, alt));
+    if alt {
+        let b = try_spaces(a, buf, n);
+        return label(b, buf, p, name);
+    }
+    label(a, buf, p, name)
+}

@@ -1,0 +1,266 @@
+// A value counted or written as one piece: the text of strings is lent beside it.
+ghost use mathlib.Core.Path.{_≡_};
+ghost use mathlib.Core.Bool.{cond};
+ghost use mathlib.Core.List.{List, [], _∷_, _++_};
+ghost use Prim.Native.Nat.{ℕ, _+_, _^_};
+ghost use lib.IntN.{ℤ, pos};
+ghost use lib.ListN.{length};
+ghost use Rattle.formatting.specs.declared.flags.FormattingFlags as Flags;
+ghost use Rattle.utils.specs.Text.{part};
+ghost use Rattle.pwrapper.specs.Number.{decimal, debugText, displayText, twosComplement};
+ghost use Rattle.str_writer.specs.Value.{integer, char, str, ascii, repeated, display, debug, textOf, stringText};
+ghost use Rattle.writer_backend.specs.Output.{putOut, countIn};
+ghost use Rattle.writer_backend.specs.Values.{formOf, bitsOf, valueOf, valueOut};
+use crate::pieces::WriterBackend;
+use crate::pieces::Wrote;
+use crate::pieces::add_len;
+use crate::pieces::from_written;
+use ascii_str::AsciiStr;
+use char_encoding::char_debug_len;
+use char_encoding::char_display_len;
+use char_encoding::is_char;
+use formatting::FormattingFlags;
+use formatting::NumberFormatting;
+use pwrapper::binary_len_u64;
+use pwrapper::compute_utf8_debug_len_in_range;
+use pwrapper::hexadecimal_len_u64;
+use pwrapper::unsigned_abs_i64;
+use str_writer::decimal_len;
+use str_writer::write_ascii_range;
+use str_writer::write_ascii_range_debug;
+use str_writer::write_ascii_repeated;
+use str_writer::write_char;
+use str_writer::write_char_debug;
+use str_writer::write_debug;
+use str_writer::write_decimal;
+use str_writer::write_str_range;
+use str_writer::write_str_range_debug;
+use utf8::is_utf8;
+use utils::Range;
+use utils::saturate_range;
+
+pub enum Form {
+    Display,
+    Debug,
+}
+
+// The bits of an integer's type.
+pub enum Width {
+    W8,
+    W16,
+    W32,
+    W64,
+}
+
+// What is written (after PVariant of pargument.rs). A string is a range of the text lent beside it.
+pub enum PVariant {
+    Unsigned(Form, Width, u64),
+    Signed(Form, Width, i64),
+    Char(Form, u32),
+    Str(Form, Range),
+    Ascii(Form, Range),
+    Repeated(u8, usize),
+}
+
+// Writes or counts a value, tested in the order 9, then 2, 4 or 5, then 3 in writing, then 6 or 1.
+pub fn put_value(
+    m: WriterBackend,
+    flags: FormattingFlags,
+    buf: &mut [u8],
+    v: PVariant,
+    s: &[u8],
+) -> Wrote
+    ensures { λ r. ⌜ putOut r (now (buf .exit)) ≡ valueOut m (now (buf .entry)) flags (valueOf v (now (s .entry))) ⌝ }
+{
+    match v {
+        PVariant::Unsigned(form, width, n) => put_unsigned(m, flags, buf, form, width, n),
+        PVariant::Signed(form, width, x) => put_signed(m, flags, buf, form, width, x),
+        PVariant::Char(form, c) => put_char(m, buf, form, c),
+        PVariant::Str(form, range) => put_str(m, buf, form, s, range),
+        PVariant::Ascii(form, range) => put_ascii(m, buf, form, s, range),
+        PVariant::Repeated(c, n) => put_repeated(m, buf, c, n),
+    }
+}
+
+// An integer of the width, which only the two's complement of a negative one shows.
+fn put_unsigned(
+    m: WriterBackend,
+    flags: FormattingFlags,
+    buf: &mut [u8],
+    form: Form,
+    width: Width,
+    n: u64,
+) -> Wrote
+    ensures { λ r. ⌜ putOut r (now (buf .exit)) ≡ valueOut m (now (buf .entry)) flags (integer (formOf form) (bitsOf width) (pos n)) ⌝ }
+{
+    match form {
+        Form::Display => put_decimal(m, buf, false, n),
+        Form::Debug => put_debug(m, flags, buf, false, n, n),
+    }
+}
+
+fn put_signed(
+    m: WriterBackend,
+    flags: FormattingFlags,
+    buf: &mut [u8],
+    form: Form,
+    width: Width,
+    x: i64,
+) -> Wrote
+    ensures { λ r. ⌜ putOut r (now (buf .exit)) ≡ valueOut m (now (buf .entry)) flags (integer (formOf form) (bitsOf width) x) ⌝ }
+{
+    let n = unsigned_abs_i64(x);
+    match form {
+        Form::Display => put_decimal(m, buf, x < 0, n),
+        Form::Debug => put_debug(m, flags, buf, x < 0, n, bits_at(width, x)),
+    }
+}
+
+// The greatest number of a width.
+fn greatest(width: Width) -> u64
+    ensures { λ r. ⌜ r + 1 ≡ 2 ^ bitsOf width ⌝ }
+{
+    match width {
+        Width::W8 => 255,
+        Width::W16 => 65535,
+        Width::W32 => 4294967295,
+        Width::W64 => 18446744073709551615,
+    }
+}
+
+// The two's complement at a width.
+fn bits_at(width: Width, x: i64) -> u64
+    ensures { λ r. ⌜ r ≡ twosComplement (bitsOf width) x ⌝ }
+{
+    if x < 0 {
+        let n = (!x) as u64;
+        let most = greatest(width);
+        if most < n {
+            return 0;
+        }
+        return most - n;
+    }
+    x as u64
+}
+
+fn put_decimal(m: WriterBackend, buf: &mut [u8], is_negative: bool, n: u64) -> Wrote
+    ensures { λ r. ⌜ ((f : Flags.FormattingFlags) (k : ℕ) (z : ℤ) → displayText z ≡ cond «is_negative» (45 ∷ []) [] ++ decimal n → putOut r (now (buf .exit)) ≡ valueOut m (now (buf .entry)) f (integer display k z)) ⌝ }
+{
+    if m.counting != 0 {
+        return add_len(m, decimal_len(is_negative, n));
+    }
+    from_written(write_decimal(buf, m.number, is_negative, n))
+}
+
+fn put_debug(
+    m: WriterBackend,
+    flags: FormattingFlags,
+    buf: &mut [u8],
+    is_negative: bool,
+    n: u64,
+    bits: u64,
+) -> Wrote
+    ensures { λ r. ⌜ ((k : ℕ) (z : ℤ) → displayText z ≡ cond «is_negative» (45 ∷ []) [] ++ decimal n → twosComplement k z ≡ bits → putOut r (now (buf .exit)) ≡ valueOut m (now (buf .entry)) flags (integer debug k z)) ⌝ }
+{
+    if m.counting != 0 {
+        return add_len(m, debug_len(is_negative, n, bits, flags));
+    }
+    from_written(write_debug(buf, m.number, is_negative, n, bits, flags))
+}
+
+fn debug_len(is_negative: bool, n: u64, bits: u64, flags: FormattingFlags) -> usize
+    ensures { λ r. ⌜ ((k : ℕ) (z : ℤ) → displayText z ≡ cond «is_negative» (45 ∷ []) [] ++ decimal n → twosComplement k z ≡ bits → r ≡ length (debugText flags k z)) ⌝ }
+{
+    let num_fmt = flags.num_fmt;
+    match num_fmt {
+        NumberFormatting::Decimal => decimal_len(is_negative, n),
+        NumberFormatting::Hexadecimal => hexadecimal_len_u64(bits, flags),
+        NumberFormatting::Binary => binary_len_u64(bits, flags),
+    }
+}
+
+fn put_char(m: WriterBackend, buf: &mut [u8], form: Form, c: u32) -> Wrote
+    ensures { λ r. ⌜ ((f : Flags.FormattingFlags) → putOut r (now (buf .exit)) ≡ valueOut m (now (buf .entry)) f (char (formOf form) c)) ⌝ }
+{
+    if m.counting != 0 {
+        if !is_char(c) {
+            return Wrote { answer: 5, mode: m };
+        }
+        return add_len(m, char_len(form, c));
+    }
+    let at = m.number;
+    match form {
+        Form::Display => from_written(write_char(buf, at, c)),
+        Form::Debug => from_written(write_char_debug(buf, at, c)),
+    }
+}
+
+fn char_len(form: Form, c: u32) -> usize
+    ensures { λ r. ⌜ ((f : Flags.FormattingFlags) → r ≡ length (textOf f (char (formOf form) c))) ⌝ }
+{
+    match form {
+        Form::Display => char_display_len(c).len,
+        Form::Debug => char_debug_len(c).len,
+    }
+}
+
+fn put_str(m: WriterBackend, buf: &mut [u8], form: Form, s: &[u8], range: Range) -> Wrote
+    ensures { λ r. ⌜ ((f : Flags.FormattingFlags) → putOut r (now (buf .exit)) ≡ valueOut m (now (buf .entry)) f (str (formOf form) (now (s .entry)) range)) ⌝ }
+{
+    if m.counting != 0 {
+        if !is_utf8(s) {
+            return Wrote { answer: 4, mode: m };
+        }
+        return add_string(m, form, s, range);
+    }
+    let at = m.number;
+    match form {
+        Form::Display => from_written(write_str_range(buf, at, s, range)),
+        Form::Debug => from_written(write_str_range_debug(buf, at, s, range)),
+    }
+}
+
+fn put_ascii(m: WriterBackend, buf: &mut [u8], form: Form, s: &[u8], range: Range) -> Wrote
+    ensures { λ r. ⌜ ((f : Flags.FormattingFlags) → putOut r (now (buf .exit)) ≡ valueOut m (now (buf .entry)) f (ascii (formOf form) (now (s .entry)) range)) ⌝ }
+{
+    if m.counting != 0 {
+        return match AsciiStr::new(s) {
+            AsciiStr::Ascii => add_string(m, form, s, range),
+            AsciiStr::NotAsciiError { invalid_from: _ } => Wrote { answer: 2, mode: m },
+        };
+    }
+    let at = m.number;
+    match form {
+        Form::Display => from_written(write_ascii_range(buf, at, s, range)),
+        Form::Debug => from_written(write_ascii_range_debug(buf, at, s, range)),
+    }
+}
+
+// The length of a clamped range, bare or quoted, added to the total.
+fn add_string(m: WriterBackend, form: Form, s: &[u8], range: Range) -> Wrote
+    ensures { λ r. ⌜ ((b : List ℕ) → putOut r b ≡ countIn m b (length (stringText (formOf form) (part (now (s .entry)) range)))) ⌝ }
+{
+    match form {
+        Form::Display => {
+            let clamped = saturate_range(s, range);
+            add_len(m, clamped.end - clamped.start)
+        }
+        Form::Debug => {
+            let quoted = compute_utf8_debug_len_in_range(s, range);
+            let len = quoted.len;
+            if len == 0 {
+                return Wrote { answer: 6, mode: m };
+            }
+            add_len(m, len)
+        }
+    }
+}
+
+fn put_repeated(m: WriterBackend, buf: &mut [u8], c: u8, n: usize) -> Wrote
+    ensures { λ r. ⌜ ((f : Flags.FormattingFlags) → putOut r (now (buf .exit)) ≡ valueOut m (now (buf .entry)) f (repeated c n)) ⌝ }
+{
+    if m.counting != 0 {
+        return add_len(m, n);
+    }
+    from_written(write_ascii_repeated(buf, m.number, c, n))
+}

@@ -1,0 +1,137 @@
+// The separators and brackets of a record: a constant text in an array of three bytes.
+ghost use mathlib.Core.Path.{_≡_};
+ghost use Rattle.agreement.specs.Call.{bracket, plainClose, emptyClose};
+ghost use Rattle.agreement.specs.Ledger.{separator};
+ghost use Rattle.writer_backend.specs.Words.{textOfWord};
+use agreement::Kind;
+
+// Up to three bytes.
+pub struct Word {
+    pub bytes: [u8; 3],
+    pub len: usize,
+}
+
+pub fn bracket_of(k: Kind) -> Word
+    ensures { λ r. ⌜ textOfWord r ≡ bracket k ⌝ }
+{
+    match k {
+        Kind::Struct => Word {
+            bytes: [125, 0, 0],
+            len: 1,
+        },
+        Kind::Tuple => Word {
+            bytes: [41, 0, 0],
+            len: 1,
+        },
+        Kind::List => Word {
+            bytes: [93, 0, 0],
+            len: 1,
+        },
+        Kind::Set => Word {
+            bytes: [125, 0, 0],
+            len: 1,
+        },
+    }
+}
+
+pub fn plain_close(k: Kind) -> Word
+    ensures { λ r. ⌜ textOfWord r ≡ plainClose k ⌝ }
+{
+    match k {
+        Kind::Struct => Word {
+            bytes: [32, 125, 0],
+            len: 2,
+        },
+        Kind::Tuple => Word {
+            bytes: [41, 0, 0],
+            len: 1,
+        },
+        Kind::List => Word {
+            bytes: [93, 0, 0],
+            len: 1,
+        },
+        Kind::Set => Word {
+            bytes: [125, 0, 0],
+            len: 1,
+        },
+    }
+}
+
+pub fn empty_close(k: Kind) -> Word
+    ensures { λ r. ⌜ textOfWord r ≡ emptyClose k ⌝ }
+{
+    match k {
+        Kind::Struct => Word {
+            bytes: [0, 0, 0],
+            len: 0,
+        },
+        Kind::Tuple => Word {
+            bytes: [0, 0, 0],
+            len: 0,
+        },
+        Kind::List => Word {
+            bytes: [91, 93, 0],
+            len: 2,
+        },
+        Kind::Set => Word {
+            bytes: [123, 125, 0],
+            len: 2,
+        },
+    }
+}
+
+// What stands before a field or an entry.
+pub fn separator_of(k: Kind, has: bool, alt: bool) -> Word
+    ensures { λ r. ⌜ textOfWord r ≡ separator k has alt ⌝ }
+{
+    if has {
+        if alt {
+            return Word {
+                bytes: [44, 10, 0],
+                len: 2,
+            };
+        }
+        return Word {
+            bytes: [44, 32, 0],
+            len: 2,
+        };
+    }
+    if alt {
+        return match k {
+            Kind::Struct => Word {
+                bytes: [32, 123, 10],
+                len: 3,
+            },
+            Kind::Tuple => Word {
+                bytes: [40, 10, 0],
+                len: 2,
+            },
+            Kind::List => Word {
+                bytes: [91, 10, 0],
+                len: 2,
+            },
+            Kind::Set => Word {
+                bytes: [123, 10, 0],
+                len: 2,
+            },
+        };
+    }
+    match k {
+        Kind::Struct => Word {
+            bytes: [32, 123, 32],
+            len: 3,
+        },
+        Kind::Tuple => Word {
+            bytes: [40, 0, 0],
+            len: 1,
+        },
+        Kind::List => Word {
+            bytes: [91, 0, 0],
+            len: 1,
+        },
+        Kind::Set => Word {
+            bytes: [123, 0, 0],
+            len: 1,
+        },
+    }
+}
