@@ -1,0 +1,3 @@
+pub mod Agreed
+pub mod Decoding
+pub mod Playing

@@ -1,0 +1,60 @@
+-- Five words are one call; a call played before the rest of a run.
+use mathlib.Core.Option.{Option, none}
+use mathlib.Core.Path.{_≡_, refl}
+use mathlib.Core.List.{List, [], _∷_}
+use Prim.Native.Nat.{ℕ, suc, _+_, _-_, _≤_, _<_}
+use native.Mathlib.Omega.{arith}
+use lib.ListN.{length, take, drop, getD}
+use lib.Seq.{drop-cons}
+use borrow.Author.Tests.{le-leb, lt-leb}
+use Rattle.formatting.specs.declared.flags.FormattingFlags.{FormattingFlags}
+use Rattle.agreement.specs.Call.{Call}
+use Rattle.agreement.specs.Model.{State, Out, hold, start}
+use Rattle.writer_backend.specs.declared.pieces.WriterBackend.{WriterBackend}
+use Rattle.writer_backend.specs.Output.{modeOf}
+use Rattle.formatter.specs.View.{depthOf, view}
+use Rattle.run.specs.Encoding.{opAt, callOf, callAt, decode}
+use Rattle.run.specs.Played.{stepOr, playFrom}
+
+-- the text of a call: past the pool, longer than the pool, or within it
+module _ (o i n a b : ℕ) (t : List ℕ) where
+  pub text-past : length t < i → callAt o i n a b t ≡ none
+  unfolding callAt
+  text-past p = rw (lt-leb i (length t) p)
+
+  pub text-long : i ≤ length t → length t - i < n → callAt o i n a b t ≡ none
+  unfolding callAt
+  text-long p q = rw (le-leb i (length t) p, lt-leb n (length t - i) q)
+
+  pub text-within : i ≤ length t → n ≤ length t - i → callAt o i n a b t ≡ callOf (opAt o a b) (take (i + n - i) (drop i t))
+  unfolding callAt
+  text-within p q = let e : i + n - i ≡ n = omega arith in rw (le-leb i (length t) p, le-leb n (length t - i) q, e)
+
+-- five words and more: the call that they are, and the rest
+pub decode-next : (l t : List ℕ) (i : ℕ) → i + 5 ≤ length l
+    → decode (drop i l) t ≡ callAt (getD l i 0) (getD l (i + 1) 0) (getD l (i + 2) 0) (getD l (i + 3) 0) (getD l (i + 4) 0) t ∷ decode (drop (i + 5) l) t
+unfolding decode
+decode-next l t i h =
+    rw (word i (i + 1) (omega arith) (omega arith), word (i + 1) (i + 2) (omega arith) (omega arith), word (i + 2) (i + 3) (omega arith) (omega arith), word (i + 3) (i + 4) (omega arith) (omega arith), word (i + 4) (i + 5) (omega arith) (omega arith))
+  where
+    word : (j k : ℕ) → k ≡ suc j → j < length l → drop j l ≡ getD l j 0 ∷ drop k l
+    word j k e p = rw e (drop-cons l j 0 p)
+
+-- fewer: nothing
+pub decode-end : (l t : List ℕ) → length l < 5 → decode l t ≡ []
+unfolding decode
+decode-end [] t h = refl
+decode-end (o ∷ []) t h = refl
+decode-end (o ∷ i ∷ []) t h = refl
+decode-end (o ∷ i ∷ n ∷ []) t h = refl
+decode-end (o ∷ i ∷ n ∷ a ∷ []) t h = refl
+decode-end (o ∷ i ∷ n ∷ a ∷ b ∷ l) t h = absurd (omega arith)
+
+-- at the start nothing is open
+pub view-start : (w : WriterBackend) (f : FormattingFlags) (s b : List ℕ) → view (record { mode = w; flags = f; margin = 0; depth = 0 }) s b ≡ start (modeOf w) b f
+unfolding depthOf
+view-start w f s b = refl
+
+-- one call, and the rest from the state that it leaves
+pub play-next : (a : ℕ) (F : State) (c : Option Call) (cs : List (Option Call)) (o : Out) (r : ℕ) → o ≡ stepOr F c → r ≡ hold a (o .answer) → playFrom r (o .state) cs ≡ playFrom a F (c ∷ cs)
+play-next a F c cs o r e q = rw (q, e)

@@ -1,0 +1,364 @@
+// Runs as data: a list of calls as numbers over a pool of texts, counted or written whole. The stack
+// of open entries is a local array that is lent to the calls.
+ghost use mathlib.Core.Path.{_≡_};
+ghost use mathlib.Core.List.{[]};
+ghost use Prim.Native.Nat.{_+_, _^_, _<_};
+ghost use lib.ListN.{getD};
+ghost use Rattle.agreement.specs.Model.{start, counting, writing};
+ghost use Rattle.formatter.specs.View.{view, viewOut};
+ghost use Rattle.writer_backend.specs.Output.{devOf, modeOf};
+ghost use Rattle.writer_backend.specs.Values.{bitsOf};
+ghost use Rattle.run.specs.Encoding.{valueAt, opAt, callOf, callAt, decode, numFmtAt, flagsAt, widthAt, signedAt, unsignedAt, integerAt, charAt, repeatedAt};
+ghost use Rattle.run.specs.Played.{stepOr, playFrom, CountAgrees, WriteAgrees};
+use agreement::Kind;
+use formatter::HStep;
+use formatter::Head;
+use formatter::endsub_at;
+use formatter::finish_at;
+use formatter::open_at;
+use formatter::place_at;
+use formatter::sub_at;
+use formatter::value_at;
+use formatting::FormattingFlags;
+use formatting::HexFormatting;
+use formatting::NumberFormatting;
+use utils::Range;
+use writer_backend::Form;
+use writer_backend::PVariant;
+use writer_backend::Spot;
+use writer_backend::Width;
+use writer_backend::WriterBackend;
+use writer_backend::first;
+
+// What a call's first word asks for.
+pub enum Op {
+    Open(Kind),
+    Place(Spot),
+    Finish,
+    Sub(FormattingFlags),
+    EndSub,
+    Value(PVariant),
+    Nothing,
+}
+
+// The end of a run: its first refusal by document 01's number, 0 for none, and its total or cursor.
+pub struct Ran {
+    pub first: u8,
+    pub number: usize,
+}
+
+// The same with the output.
+struct End {
+    first: u8,
+    mode: WriterBackend,
+}
+
+fn num_fmt_at(n: u64) -> NumberFormatting
+    ensures { λ r. ⌜ r ≡ numFmtAt n ⌝ }
+{
+    if n == 0 {
+        return NumberFormatting::Decimal;
+    }
+    if n == 1 {
+        return NumberFormatting::Hexadecimal;
+    }
+    NumberFormatting::Binary
+}
+
+fn flags_at(a: u64) -> FormattingFlags
+    ensures { λ r. ⌜ r ≡ flagsAt a ⌝ }
+{
+    let num_fmt = num_fmt_at(a / 4);
+    let is_alternate = a % 2 == 1;
+    if a / 2 % 2 == 0 {
+        return FormattingFlags {
+            num_fmt,
+            hex_fmt: HexFormatting::Upper,
+            is_alternate,
+        };
+    }
+    FormattingFlags {
+        num_fmt,
+        hex_fmt: HexFormatting::Lower,
+        is_alternate,
+    }
+}
+
+fn width_at(n: u64) -> Width
+    ensures { λ r. ⌜ r ≡ widthAt n ⌝ }
+{
+    if n == 0 {
+        return Width::W8;
+    }
+    if n == 1 {
+        return Width::W16;
+    }
+    if n == 2 {
+        return Width::W32;
+    }
+    Width::W64
+}
+
+// The greatest number of a width.
+fn greatest(width: Width) -> u64
+    ensures { λ r. ⌜ r + 1 ≡ 2 ^ bitsOf width ⌝ }
+{
+    match width {
+        Width::W8 => 255,
+        Width::W16 => 65535,
+        Width::W32 => 4294967295,
+        Width::W64 => 18446744073709551615,
+    }
+}
+
+fn unsigned_at(form: Form, a: u64, b: u64) -> Op
+    ensures { λ r. ⌜ r ≡ unsignedAt form a b ⌝ }
+{
+    if 4 <= b {
+        return Op::Nothing;
+    }
+    let width = width_at(b);
+    if greatest(width) < a {
+        return Op::Nothing;
+    }
+    Op::Value(PVariant::Unsigned(form, width, a))
+}
+
+fn integer_at(form: Form, a: u64, b: u64) -> Op
+    ensures { λ r. ⌜ r ≡ integerAt form a b ⌝ }
+{
+    if 4 <= b {
+        return Op::Nothing;
+    }
+    let width = width_at(b);
+    if greatest(width) < a {
+        return Op::Nothing;
+    }
+    Op::Value(PVariant::Signed(form, width, signed_at(width, a)))
+}
+
+// The signed integer whose two's complement at a width is a.
+fn signed_at(width: Width, a: u64) -> i64
+    requires { ⌜ a < 2 ^ bitsOf width ⌝ }
+    ensures { λ r. ⌜ r ≡ signedAt (bitsOf width) a ⌝ }
+{
+    let most = greatest(width);
+    if a <= most / 2 {
+        return a as i64;
+    }
+    let complement = (most - a) as i64;
+    !complement
+}
+
+fn char_at(form: Form, a: u64) -> Op
+    ensures { λ r. ⌜ r ≡ charAt form a ⌝ }
+{
+    if 0xFFFF_FFFF < a {
+        return Op::Nothing;
+    }
+    Op::Value(PVariant::Char(form, a as u32))
+}
+
+fn repeated_at(a: u64, b: u64) -> Op
+    ensures { λ r. ⌜ r ≡ repeatedAt a b ⌝ }
+{
+    if 255 < a {
+        return Op::Nothing;
+    }
+    Op::Value(PVariant::Repeated(a as u8, b as usize))
+}
+
+fn value_op(o: u64, a: u64, b: u64) -> Op
+    ensures { λ r. ⌜ r ≡ valueAt o a b ⌝ }
+{
+    let range = Range {
+        start: a as usize,
+        end: b as usize,
+    };
+    if o == 10 {
+        return Op::Value(PVariant::Str(Form::Display, range));
+    }
+    if o == 11 {
+        return Op::Value(PVariant::Str(Form::Debug, range));
+    }
+    if o == 12 {
+        return Op::Value(PVariant::Ascii(Form::Display, range));
+    }
+    if o == 13 {
+        return Op::Value(PVariant::Ascii(Form::Debug, range));
+    }
+    if o == 14 {
+        return char_at(Form::Display, a);
+    }
+    if o == 15 {
+        return char_at(Form::Debug, a);
+    }
+    if o == 16 {
+        return repeated_at(a, b);
+    }
+    if o == 17 {
+        return unsigned_at(Form::Display, a, b);
+    }
+    if o == 18 {
+        return unsigned_at(Form::Debug, a, b);
+    }
+    if o == 19 {
+        return integer_at(Form::Display, a, b);
+    }
+    if o == 20 {
+        return integer_at(Form::Debug, a, b);
+    }
+    Op::Nothing
+}
+
+fn op_at(o: u64, a: u64, b: u64) -> Op
+    ensures { λ r. ⌜ r ≡ opAt o a b ⌝ }
+{
+    if o == 0 {
+        return Op::Open(Kind::Struct);
+    }
+    if o == 1 {
+        return Op::Open(Kind::Tuple);
+    }
+    if o == 2 {
+        return Op::Open(Kind::List);
+    }
+    if o == 3 {
+        return Op::Open(Kind::Set);
+    }
+    if o == 4 {
+        return Op::Place(Spot::Field);
+    }
+    if o == 5 {
+        return Op::Place(Spot::Item);
+    }
+    if o == 6 {
+        return Op::Place(Spot::Entry);
+    }
+    if o == 7 {
+        return Op::Finish;
+    }
+    if o == 8 {
+        if 12 <= a {
+            return Op::Nothing;
+        }
+        return Op::Sub(flags_at(a));
+    }
+    if o == 9 {
+        return Op::EndSub;
+    }
+    value_op(o, a, b)
+}
+
+// One call. There is one call site for each function: the compiler then makes one loop of them all.
+fn call(h: Head, stack: &mut [u32; 64], buf: &mut [u8], op: Op, s: &[u8]) -> HStep
+    ensures { λ r. ⌜ viewOut r (now (stack .exit)) (now (buf .exit)) ≡ stepOr (view h (now (stack .entry)) (now (buf .entry))) (callOf op (now (s .entry))) ⌝ }
+{
+    match op {
+        Op::Open(k) => open_at(h, stack, buf, k, s),
+        Op::Place(p) => place_at(h, stack, buf, p, s),
+        Op::Finish => finish_at(h, stack, buf),
+        Op::Sub(f) => sub_at(h, stack, buf, f),
+        Op::EndSub => endsub_at(h, stack, buf),
+        Op::Value(v) => value_at(h, stack, buf, v, s),
+        Op::Nothing => HStep { answer: 8, head: h },
+    }
+}
+
+// The call that five words are.
+fn call_at(h: Head, stack: &mut [u32; 64], buf: &mut [u8], words: [u64; 5], text: &[u8]) -> HStep
+    ensures { λ r. ⌜ viewOut r (now (stack .exit)) (now (buf .exit)) ≡ stepOr (view h (now (stack .entry)) (now (buf .entry))) (callAt (getD words 0 0) (getD words 1 0) (getD words 2 0) (getD words 3 0) (getD words 4 0) (now (text .entry))) ⌝ }
+{
+    let at = words[1] as usize;
+    let len = words[2] as usize;
+    if at <= text.len() {
+        if len <= text.len() - at {
+            let end = at + len;
+            let op = op_at(words[0], words[3], words[4]);
+            return call(h, stack, buf, op, &text[at..end]);
+        }
+    }
+    HStep { answer: 8, head: h }
+}
+
+// Plays the calls from the beginning.
+fn play(
+    mode: WriterBackend,
+    flags: FormattingFlags,
+    buf: &mut [u8],
+    calls: &[u64],
+    text: &[u8],
+) -> End
+    ensures { λ r. ⌜ record { first = r .first; dev = devOf (r .mode) (now (buf .exit)) } ≡ playFrom 0 (start (modeOf mode) (now (buf .entry)) flags) (decode (now (calls .entry)) (now (text .entry))) ⌝ }
+{
+    let mut stack = [0u32; 64];
+    let mut head = Head {
+        mode,
+        flags,
+        margin: 0,
+        depth: 0,
+    };
+    let mut refusal: u8 = 0;
+    let mut i = 0;
+    while 5 <= calls.len() - i {
+        let words = [
+            calls[i],
+            calls[i + 1],
+            calls[i + 2],
+            calls[i + 3],
+            calls[i + 4],
+        ];
+        let r = call_at(head, &mut stack, buf, words, text);
+        let after = r.head;
+        head = after;
+        refusal = first(refusal, r.answer);
+        i += 5;
+    }
+    let end = head.mode;
+    End {
+        first: refusal,
+        mode: end,
+    }
+}
+
+// Counts a run: its first refusal and its total.
+pub fn count_run(flags: FormattingFlags, calls: &[u64], text: &[u8]) -> Ran
+    ensures { λ r. ⌜ record { first = r .first; dev = record { mode = counting (r .number); bytes = [] } } ≡ playFrom 0 (start (counting 0) [] flags) (decode (now (calls .entry)) (now (text .entry))) ⌝ }
+    ensures { λ r. ⌜ CountAgrees flags (decode (now (calls .entry)) (now (text .entry))) r ⌝ }
+{
+    let mode = WriterBackend {
+        counting: 1,
+        number: 0,
+    };
+    let mut none = [0u8; 0];
+    let end = play(mode, flags, &mut none, calls, text);
+    let total = end.mode;
+    Ran {
+        first: end.first,
+        number: total.number,
+    }
+}
+
+// Writes a run from a cursor: its first refusal, 9 where the cursor is past the buffer, and the
+// cursor at the end.
+pub fn write_run(
+    flags: FormattingFlags,
+    buf: &mut [u8],
+    at: usize,
+    calls: &[u64],
+    text: &[u8],
+) -> Ran
+    ensures { λ r. ⌜ record { first = r .first; dev = record { mode = writing (r .number); bytes = now (buf .exit) } } ≡ playFrom 0 (start (writing at) (now (buf .entry)) flags) (decode (now (calls .entry)) (now (text .entry))) ⌝ }
+    ensures { λ r. ⌜ WriteAgrees flags (decode (now (calls .entry)) (now (text .entry))) (now (buf .entry)) at r (now (buf .exit)) ⌝ }
+{
+    let mode = WriterBackend {
+        counting: 0,
+        number: at,
+    };
+    let end = play(mode, flags, buf, calls, text);
+    let after = end.mode;
+    Ran {
+        first: end.first,
+        number: after.number,
+    }
+}
