@@ -1,15 +1,21 @@
 -- Document 01, 'Known pairs (starred ones proved)': what is written, and the bytes that the paper names.
-use mathlib.Core.Bool.{true, false}
+use mathlib.Core.Bool.{true}
 use mathlib.Core.Path.{_≡_}
 use mathlib.Core.List.{List, [], _∷_}
 use Prim.Native.Nat.{ℕ}
 use lib.IntN.{pos, negsuc}
+use lib.ListN.{replicate}
 use Rattle.formatting.specs.declared.flags.FormattingFlags.{FormattingFlags}
 use Rattle.formatting.specs.declared.flags.NumberFormatting.{NumberFormatting}
 use Rattle.formatting.specs.declared.flags.NumberFormatting.the-variants.{Hexadecimal, Binary}
 use Rattle.formatting.specs.Flags.{defaultFlags, withNumFmt, withAlternate}
 use Rattle.formatting.specs.Escape.{quoted}
 use Rattle.utf8.specs.Utf8.{octets}
+use Rattle.str_writer.specs.Value.{integer, debug}
+use Rattle.agreement.specs.declared.Kind.the-variants.{Struct}
+use Rattle.agreement.specs.declared.Kind.the-variants as kind
+use Rattle.agreement.specs.Call.{Call, field, opens, place, value, finish}
+use Rattle.agreement.specs.Agreement.{definedText, written}
 use Rattle.pwrapper.specs.Number.{displayText, debugText}
 
 pub record Pair : Type 0 where
@@ -19,6 +25,14 @@ pub record Pair : Type 0 where
 -- 'Known pairs': alternate form in a base
 abbrev pub alternate : NumberFormatting → FormattingFlags
 alternate n = withAlternate (withNumFmt defaultFlags n) true
+
+-- 'Known pairs': a list without entries
+abbrev pub emptyList : List Call
+emptyList = opens kind.List [] ∷ finish ∷ []
+
+-- 'The call sheet': the input that the paper shows
+abbrev pub sheet : List Call
+sheet = opens Struct (80 ∷ []) ∷ place (field (120 ∷ [])) ∷ value (integer debug 8 (pos 7)) ∷ finish ∷ []
 
 -- 'Known pairs': the starred ones
 unfoldable pub pairs : List Pair
@@ -47,6 +61,10 @@ pairs =
     ∷ record { text = quoted (97 ∷ 39 ∷ 98 ∷ []); known = 34 ∷ 97 ∷ 92 ∷ 39 ∷ 98 ∷ 34 ∷ [] }
     -- byte 1 quoted `"\x01"`
     ∷ record { text = quoted (1 ∷ []); known = 34 ∷ 92 ∷ 120 ∷ 48 ∷ 49 ∷ 34 ∷ [] }
+    -- empty list alternate `[]`
+    ∷ record { text = definedText (withAlternate defaultFlags true) emptyList; known = 91 ∷ 93 ∷ [] }
+    -- the sheet with n 3: the bytes are `Px7`
+    ∷ record { text = written defaultFlags sheet (replicate 3 0) 0 .state .dev .bytes; known = 80 ∷ 120 ∷ 55 ∷ [] }
     ∷ []
 
 -- 'Known pairs': each text of a list is its known bytes
