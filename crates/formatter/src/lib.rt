@@ -28,6 +28,7 @@ ghost use Rattle.agreement.specs.Call.{opens, place, field, item, entry, value,
 ghost use Rattle.agreement.specs.Model.{step, start, counting};
 ghost use lib.IntN.{pos};
 ghost use Rattle.str_writer.specs.Value.{integer, char, str, ascii, repeated, display, debug, whole};
+ghost use Rattle.writer_backend.specs.Values.{valueOf};
 ghost use Rattle.formatter.specs.View.{viewF, viewFOut, begun};
 
 pub struct Formatter {
@@ -236,478 +237,239 @@ impl Formatter {
         }
     }
 
-    pub fn write_str(self, buf: &mut [u8], s: &[u8]) -> FStep
-        ensures { λ r. ⌜ viewFOut r (now (buf .exit)) ≡ step (viewF self (now (buf .entry))) (value (str display (now (s .entry)) (whole (now (s .entry))))) ⌝ }
+    // A value, whose text is lent beside it.
+    fn value(self, buf: &mut [u8], v: PVariant, s: &[u8]) -> FStep
+        ensures { λ r. ⌜ viewFOut r (now (buf .exit)) ≡ step (viewF self (now (buf .entry))) (value (valueOf v (now (s .entry)))) ⌝ }
     {
         let head = self.head;
         let stack = self.stack;
-        let end = s.len();
-        let r = value_at(
-            head,
-            &stack,
-            buf,
-            PVariant::Str(Form::Display, Range { start: 0, end }),
-            s,
-        );
+        let r = value_at(head, &stack, buf, v, s);
         let after = r.head;
         FStep {
             answer: r.answer,
             fmt: Formatter { head: after, stack },
         }
+    }
+
+    pub fn write_str(self, buf: &mut [u8], s: &[u8]) -> FStep
+        ensures { λ r. ⌜ viewFOut r (now (buf .exit)) ≡ step (viewF self (now (buf .entry))) (value (str display (now (s .entry)) (whole (now (s .entry))))) ⌝ }
+    {
+        let end = s.len();
+        self.value(
+            buf,
+            PVariant::Str(Form::Display, Range { start: 0, end }),
+            s,
+        )
     }
 
     pub fn write_str_range(self, buf: &mut [u8], s: &[u8], range: Range) -> FStep
         ensures { λ r. ⌜ viewFOut r (now (buf .exit)) ≡ step (viewF self (now (buf .entry))) (value (str display (now (s .entry)) range)) ⌝ }
     {
-        let head = self.head;
-        let stack = self.stack;
-        let r = value_at(head, &stack, buf, PVariant::Str(Form::Display, range), s);
-        let after = r.head;
-        FStep {
-            answer: r.answer,
-            fmt: Formatter { head: after, stack },
-        }
+        self.value(buf, PVariant::Str(Form::Display, range), s)
     }
 
     pub fn write_ascii(self, buf: &mut [u8], s: &[u8]) -> FStep
         ensures { λ r. ⌜ viewFOut r (now (buf .exit)) ≡ step (viewF self (now (buf .entry))) (value (ascii display (now (s .entry)) (whole (now (s .entry))))) ⌝ }
     {
-        let head = self.head;
-        let stack = self.stack;
         let end = s.len();
-        let r = value_at(
-            head,
-            &stack,
+        self.value(
             buf,
             PVariant::Ascii(Form::Display, Range { start: 0, end }),
             s,
-        );
-        let after = r.head;
-        FStep {
-            answer: r.answer,
-            fmt: Formatter { head: after, stack },
-        }
+        )
     }
 
     pub fn write_ascii_range(self, buf: &mut [u8], s: &[u8], range: Range) -> FStep
         ensures { λ r. ⌜ viewFOut r (now (buf .exit)) ≡ step (viewF self (now (buf .entry))) (value (ascii display (now (s .entry)) range)) ⌝ }
     {
-        let head = self.head;
-        let stack = self.stack;
-        let r = value_at(head, &stack, buf, PVariant::Ascii(Form::Display, range), s);
-        let after = r.head;
-        FStep {
-            answer: r.answer,
-            fmt: Formatter { head: after, stack },
-        }
+        self.value(buf, PVariant::Ascii(Form::Display, range), s)
     }
 
     pub fn write_char(self, buf: &mut [u8], c: u32) -> FStep
         ensures { λ r. ⌜ viewFOut r (now (buf .exit)) ≡ step (viewF self (now (buf .entry))) (value (char display c)) ⌝ }
     {
-        let head = self.head;
-        let stack = self.stack;
-        let r = value_at(head, &stack, buf, PVariant::Char(Form::Display, c), b"");
-        let after = r.head;
-        FStep {
-            answer: r.answer,
-            fmt: Formatter { head: after, stack },
-        }
+        self.value(buf, PVariant::Char(Form::Display, c), b"")
     }
 
     pub fn write_str_debug(self, buf: &mut [u8], s: &[u8]) -> FStep
         ensures { λ r. ⌜ viewFOut r (now (buf .exit)) ≡ step (viewF self (now (buf .entry))) (value (str debug (now (s .entry)) (whole (now (s .entry))))) ⌝ }
     {
-        let head = self.head;
-        let stack = self.stack;
         let end = s.len();
-        let r = value_at(
-            head,
-            &stack,
-            buf,
-            PVariant::Str(Form::Debug, Range { start: 0, end }),
-            s,
-        );
-        let after = r.head;
-        FStep {
-            answer: r.answer,
-            fmt: Formatter { head: after, stack },
-        }
+        self.value(buf, PVariant::Str(Form::Debug, Range { start: 0, end }), s)
     }
 
     pub fn write_str_range_debug(self, buf: &mut [u8], s: &[u8], range: Range) -> FStep
         ensures { λ r. ⌜ viewFOut r (now (buf .exit)) ≡ step (viewF self (now (buf .entry))) (value (str debug (now (s .entry)) range)) ⌝ }
     {
-        let head = self.head;
-        let stack = self.stack;
-        let r = value_at(head, &stack, buf, PVariant::Str(Form::Debug, range), s);
-        let after = r.head;
-        FStep {
-            answer: r.answer,
-            fmt: Formatter { head: after, stack },
-        }
+        self.value(buf, PVariant::Str(Form::Debug, range), s)
     }
 
     pub fn write_ascii_debug(self, buf: &mut [u8], s: &[u8]) -> FStep
         ensures { λ r. ⌜ viewFOut r (now (buf .exit)) ≡ step (viewF self (now (buf .entry))) (value (ascii debug (now (s .entry)) (whole (now (s .entry))))) ⌝ }
     {
-        let head = self.head;
-        let stack = self.stack;
         let end = s.len();
-        let r = value_at(
-            head,
-            &stack,
+        self.value(
             buf,
             PVariant::Ascii(Form::Debug, Range { start: 0, end }),
             s,
-        );
-        let after = r.head;
-        FStep {
-            answer: r.answer,
-            fmt: Formatter { head: after, stack },
-        }
+        )
     }
 
     pub fn write_ascii_range_debug(self, buf: &mut [u8], s: &[u8], range: Range) -> FStep
         ensures { λ r. ⌜ viewFOut r (now (buf .exit)) ≡ step (viewF self (now (buf .entry))) (value (ascii debug (now (s .entry)) range)) ⌝ }
     {
-        let head = self.head;
-        let stack = self.stack;
-        let r = value_at(head, &stack, buf, PVariant::Ascii(Form::Debug, range), s);
-        let after = r.head;
-        FStep {
-            answer: r.answer,
-            fmt: Formatter { head: after, stack },
-        }
+        self.value(buf, PVariant::Ascii(Form::Debug, range), s)
     }
 
     pub fn write_char_debug(self, buf: &mut [u8], c: u32) -> FStep
         ensures { λ r. ⌜ viewFOut r (now (buf .exit)) ≡ step (viewF self (now (buf .entry))) (value (char debug c)) ⌝ }
     {
-        let head = self.head;
-        let stack = self.stack;
-        let r = value_at(head, &stack, buf, PVariant::Char(Form::Debug, c), b"");
-        let after = r.head;
-        FStep {
-            answer: r.answer,
-            fmt: Formatter { head: after, stack },
-        }
+        self.value(buf, PVariant::Char(Form::Debug, c), b"")
     }
 
     pub fn write_ascii_repeated(self, buf: &mut [u8], c: u8, n: usize) -> FStep
         ensures { λ r. ⌜ viewFOut r (now (buf .exit)) ≡ step (viewF self (now (buf .entry))) (value (repeated c n)) ⌝ }
     {
-        let head = self.head;
-        let stack = self.stack;
-        let r = value_at(head, &stack, buf, PVariant::Repeated(c, n), b"");
-        let after = r.head;
-        FStep {
-            answer: r.answer,
-            fmt: Formatter { head: after, stack },
-        }
+        self.value(buf, PVariant::Repeated(c, n), b"")
     }
 
     pub fn write_u8_display(self, buf: &mut [u8], x: u8) -> FStep
         ensures { λ r. ⌜ viewFOut r (now (buf .exit)) ≡ step (viewF self (now (buf .entry))) (value (integer display 8 (pos x))) ⌝ }
     {
-        let head = self.head;
-        let stack = self.stack;
-        let r = value_at(
-            head,
-            &stack,
+        self.value(
             buf,
             PVariant::Unsigned(Form::Display, Width::W8, x as u64),
             b"",
-        );
-        let after = r.head;
-        FStep {
-            answer: r.answer,
-            fmt: Formatter { head: after, stack },
-        }
+        )
     }
 
     pub fn write_u8_debug(self, buf: &mut [u8], x: u8) -> FStep
         ensures { λ r. ⌜ viewFOut r (now (buf .exit)) ≡ step (viewF self (now (buf .entry))) (value (integer debug 8 (pos x))) ⌝ }
     {
-        let head = self.head;
-        let stack = self.stack;
-        let r = value_at(
-            head,
-            &stack,
+        self.value(
             buf,
             PVariant::Unsigned(Form::Debug, Width::W8, x as u64),
             b"",
-        );
-        let after = r.head;
-        FStep {
-            answer: r.answer,
-            fmt: Formatter { head: after, stack },
-        }
+        )
     }
 
     pub fn write_u16_display(self, buf: &mut [u8], x: u16) -> FStep
         ensures { λ r. ⌜ viewFOut r (now (buf .exit)) ≡ step (viewF self (now (buf .entry))) (value (integer display 16 (pos x))) ⌝ }
     {
-        let head = self.head;
-        let stack = self.stack;
-        let r = value_at(
-            head,
-            &stack,
+        self.value(
             buf,
             PVariant::Unsigned(Form::Display, Width::W16, x as u64),
             b"",
-        );
-        let after = r.head;
-        FStep {
-            answer: r.answer,
-            fmt: Formatter { head: after, stack },
-        }
+        )
     }
 
     pub fn write_u16_debug(self, buf: &mut [u8], x: u16) -> FStep
         ensures { λ r. ⌜ viewFOut r (now (buf .exit)) ≡ step (viewF self (now (buf .entry))) (value (integer debug 16 (pos x))) ⌝ }
     {
-        let head = self.head;
-        let stack = self.stack;
-        let r = value_at(
-            head,
-            &stack,
+        self.value(
             buf,
             PVariant::Unsigned(Form::Debug, Width::W16, x as u64),
             b"",
-        );
-        let after = r.head;
-        FStep {
-            answer: r.answer,
-            fmt: Formatter { head: after, stack },
-        }
+        )
     }
 
     pub fn write_u32_display(self, buf: &mut [u8], x: u32) -> FStep
         ensures { λ r. ⌜ viewFOut r (now (buf .exit)) ≡ step (viewF self (now (buf .entry))) (value (integer display 32 (pos x))) ⌝ }
     {
-        let head = self.head;
-        let stack = self.stack;
-        let r = value_at(
-            head,
-            &stack,
+        self.value(
             buf,
             PVariant::Unsigned(Form::Display, Width::W32, x as u64),
             b"",
-        );
-        let after = r.head;
-        FStep {
-            answer: r.answer,
-            fmt: Formatter { head: after, stack },
-        }
+        )
     }
 
     pub fn write_u32_debug(self, buf: &mut [u8], x: u32) -> FStep
         ensures { λ r. ⌜ viewFOut r (now (buf .exit)) ≡ step (viewF self (now (buf .entry))) (value (integer debug 32 (pos x))) ⌝ }
     {
-        let head = self.head;
-        let stack = self.stack;
-        let r = value_at(
-            head,
-            &stack,
+        self.value(
             buf,
             PVariant::Unsigned(Form::Debug, Width::W32, x as u64),
             b"",
-        );
-        let after = r.head;
-        FStep {
-            answer: r.answer,
-            fmt: Formatter { head: after, stack },
-        }
+        )
     }
 
     pub fn write_u64_display(self, buf: &mut [u8], x: u64) -> FStep
         ensures { λ r. ⌜ viewFOut r (now (buf .exit)) ≡ step (viewF self (now (buf .entry))) (value (integer display 64 (pos x))) ⌝ }
     {
-        let head = self.head;
-        let stack = self.stack;
-        let r = value_at(
-            head,
-            &stack,
-            buf,
-            PVariant::Unsigned(Form::Display, Width::W64, x),
-            b"",
-        );
-        let after = r.head;
-        FStep {
-            answer: r.answer,
-            fmt: Formatter { head: after, stack },
-        }
+        self.value(buf, PVariant::Unsigned(Form::Display, Width::W64, x), b"")
     }
 
     pub fn write_u64_debug(self, buf: &mut [u8], x: u64) -> FStep
         ensures { λ r. ⌜ viewFOut r (now (buf .exit)) ≡ step (viewF self (now (buf .entry))) (value (integer debug 64 (pos x))) ⌝ }
     {
-        let head = self.head;
-        let stack = self.stack;
-        let r = value_at(
-            head,
-            &stack,
-            buf,
-            PVariant::Unsigned(Form::Debug, Width::W64, x),
-            b"",
-        );
-        let after = r.head;
-        FStep {
-            answer: r.answer,
-            fmt: Formatter { head: after, stack },
-        }
+        self.value(buf, PVariant::Unsigned(Form::Debug, Width::W64, x), b"")
     }
 
     pub fn write_i8_display(self, buf: &mut [u8], x: i8) -> FStep
         ensures { λ r. ⌜ viewFOut r (now (buf .exit)) ≡ step (viewF self (now (buf .entry))) (value (integer display 8 x)) ⌝ }
     {
-        let head = self.head;
-        let stack = self.stack;
-        let r = value_at(
-            head,
-            &stack,
+        self.value(
             buf,
             PVariant::Signed(Form::Display, Width::W8, x as i64),
             b"",
-        );
-        let after = r.head;
-        FStep {
-            answer: r.answer,
-            fmt: Formatter { head: after, stack },
-        }
+        )
     }
 
     pub fn write_i8_debug(self, buf: &mut [u8], x: i8) -> FStep
         ensures { λ r. ⌜ viewFOut r (now (buf .exit)) ≡ step (viewF self (now (buf .entry))) (value (integer debug 8 x)) ⌝ }
     {
-        let head = self.head;
-        let stack = self.stack;
-        let r = value_at(
-            head,
-            &stack,
-            buf,
-            PVariant::Signed(Form::Debug, Width::W8, x as i64),
-            b"",
-        );
-        let after = r.head;
-        FStep {
-            answer: r.answer,
-            fmt: Formatter { head: after, stack },
-        }
+        self.value(buf, PVariant::Signed(Form::Debug, Width::W8, x as i64), b"")
     }
 
     pub fn write_i16_display(self, buf: &mut [u8], x: i16) -> FStep
         ensures { λ r. ⌜ viewFOut r (now (buf .exit)) ≡ step (viewF self (now (buf .entry))) (value (integer display 16 x)) ⌝ }
     {
-        let head = self.head;
-        let stack = self.stack;
-        let r = value_at(
-            head,
-            &stack,
+        self.value(
             buf,
             PVariant::Signed(Form::Display, Width::W16, x as i64),
             b"",
-        );
-        let after = r.head;
-        FStep {
-            answer: r.answer,
-            fmt: Formatter { head: after, stack },
-        }
+        )
     }
 
     pub fn write_i16_debug(self, buf: &mut [u8], x: i16) -> FStep
         ensures { λ r. ⌜ viewFOut r (now (buf .exit)) ≡ step (viewF self (now (buf .entry))) (value (integer debug 16 x)) ⌝ }
     {
-        let head = self.head;
-        let stack = self.stack;
-        let r = value_at(
-            head,
-            &stack,
+        self.value(
             buf,
             PVariant::Signed(Form::Debug, Width::W16, x as i64),
             b"",
-        );
-        let after = r.head;
-        FStep {
-            answer: r.answer,
-            fmt: Formatter { head: after, stack },
-        }
+        )
     }
 
     pub fn write_i32_display(self, buf: &mut [u8], x: i32) -> FStep
         ensures { λ r. ⌜ viewFOut r (now (buf .exit)) ≡ step (viewF self (now (buf .entry))) (value (integer display 32 x)) ⌝ }
     {
-        let head = self.head;
-        let stack = self.stack;
-        let r = value_at(
-            head,
-            &stack,
+        self.value(
             buf,
             PVariant::Signed(Form::Display, Width::W32, x as i64),
             b"",
-        );
-        let after = r.head;
-        FStep {
-            answer: r.answer,
-            fmt: Formatter { head: after, stack },
-        }
+        )
     }
 
     pub fn write_i32_debug(self, buf: &mut [u8], x: i32) -> FStep
         ensures { λ r. ⌜ viewFOut r (now (buf .exit)) ≡ step (viewF self (now (buf .entry))) (value (integer debug 32 x)) ⌝ }
     {
-        let head = self.head;
-        let stack = self.stack;
-        let r = value_at(
-            head,
-            &stack,
+        self.value(
             buf,
             PVariant::Signed(Form::Debug, Width::W32, x as i64),
             b"",
-        );
-        let after = r.head;
-        FStep {
-            answer: r.answer,
-            fmt: Formatter { head: after, stack },
-        }
+        )
     }
 
     pub fn write_i64_display(self, buf: &mut [u8], x: i64) -> FStep
         ensures { λ r. ⌜ viewFOut r (now (buf .exit)) ≡ step (viewF self (now (buf .entry))) (value (integer display 64 x)) ⌝ }
     {
-        let head = self.head;
-        let stack = self.stack;
-        let r = value_at(
-            head,
-            &stack,
-            buf,
-            PVariant::Signed(Form::Display, Width::W64, x),
-            b"",
-        );
-        let after = r.head;
-        FStep {
-            answer: r.answer,
-            fmt: Formatter { head: after, stack },
-        }
+        self.value(buf, PVariant::Signed(Form::Display, Width::W64, x), b"")
     }
 
     pub fn write_i64_debug(self, buf: &mut [u8], x: i64) -> FStep
         ensures { λ r. ⌜ viewFOut r (now (buf .exit)) ≡ step (viewF self (now (buf .entry))) (value (integer debug 64 x)) ⌝ }
     {
-        let head = self.head;
-        let stack = self.stack;
-        let r = value_at(
-            head,
-            &stack,
-            buf,
-            PVariant::Signed(Form::Debug, Width::W64, x),
-            b"",
-        );
-        let after = r.head;
-        FStep {
-            answer: r.answer,
-            fmt: Formatter { head: after, stack },
-        }
+        self.value(buf, PVariant::Signed(Form::Debug, Width::W64, x), b"")
     }
 }

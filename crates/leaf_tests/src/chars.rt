@@ -1,8 +1,8 @@
 // Characters: the answer, the octets, the display and the quoted form with their unused bytes, and
 // the two lengths.
-use crate::print::hex;
-use crate::print::number;
-use crate::print::text;
+use test_print::hex;
+use test_print::number;
+use test_print::text;
 
 fn length(n: usize) {
     text(b",");

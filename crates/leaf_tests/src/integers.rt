@@ -1,10 +1,10 @@
 // Integers: the length and the text of the display form, and of the debug form by the flags.
-use crate::print::number;
-use crate::print::rest;
-use crate::print::text;
 use formatting::FormattingFlags;
 use formatting::NumberFormatting;
 use pargument::Integer;
+use test_print::number;
+use test_print::rest;
+use test_print::text;
 
 fn display(i: Integer, len: usize) {
     let laid = i.to_start_array_display();

@@ -2,7 +2,6 @@
 // line shows the case and what the code gives for it.
 mod chars;
 mod integers;
-mod print;
 mod strings;
 mod utf8_vectors;
 

@@ -1,10 +1,10 @@
 // Answers, ASCII text, boundaries, ranges and the lengths of quoted strings.
-use crate::print::flag;
-use crate::print::hex;
-use crate::print::number;
-use crate::print::text;
 use ascii_str::AsciiStr;
 use error::Answer;
+use test_print::flag;
+use test_print::hex;
+use test_print::number;
+use test_print::text;
 use utils::Range;
 
 // The number of each answer, 0 to 9.

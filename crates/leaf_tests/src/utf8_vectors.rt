@@ -1,7 +1,7 @@
 // Vectors of the UTF-8 test: 1 where the text is well-formed.
-use crate::print::flag;
-use crate::print::hex;
-use crate::print::text;
+use test_print::flag;
+use test_print::hex;
+use test_print::text;
 
 // All vectors.
 pub fn all() {

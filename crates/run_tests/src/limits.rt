@@ -1,11 +1,11 @@
 // The limits: 64 entries open and a 65th, a total at the top of its range and past it, and codes
 // that are no characters.
-use crate::print::ended;
-use crate::print::text;
+use crate::show::ended;
 use crate::show::set_word;
 use formatting::FormattingFlags;
 use run::count_run;
 use run::write_run;
+use test_print::text;
 
 // n lists in one another, each with an entry.
 fn lists(words: &mut [u64], n: u8) {

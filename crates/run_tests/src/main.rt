@@ -1,7 +1,6 @@
 // Runs of calls, counted and written. Each line shows the first refusal and the total or cursor that
 // the code gives, and the buffer.
 mod limits;
-mod print;
 mod runs;
 mod show;
 

@@ -1,11 +1,11 @@
 // A run counted, counted and written call by call, and written into buffers of every size.
-use crate::print::ended;
-use crate::print::hex;
-use crate::print::number;
-use crate::print::text;
 use formatting::FormattingFlags;
+use run::Ran;
 use run::count_run;
 use run::write_run;
+use test_print::hex;
+use test_print::number;
+use test_print::text;
 
 fn flags_of(code: u8) -> FormattingFlags {
     let plain = FormattingFlags::new();
@@ -43,11 +43,18 @@ fn widen(code: &[u8], words: &mut [u64]) {
     }
 }
 
+// A run's first refusal, and its total or cursor.
+pub fn ended(r: Ran) {
+    number(r.first as u64);
+    text(b" ");
+    number(r.number as u64);
+}
+
 // The first j calls, counted, and written from place 2 of 160 bytes.
 fn prefix(flags: FormattingFlags, calls: &[u64], s: &[u8], j: usize) {
     let mut space = [b'.'; 160];
     text(b" ");
-    number(j);
+    number(j as u64);
     text(b" calls: ");
     ended(count_run(flags, calls, s));
     text(b", ");
@@ -78,7 +85,7 @@ fn size(flags: FormattingFlags, calls: &[u64], s: &[u8], n: usize) {
     let mut space = [b'.'; 160];
     if n <= 160 {
         text(b" ");
-        number(n);
+        number(n as u64);
         text(b": ");
         into(flags, calls, s, &mut space[0..n], 0);
     }

@@ -1,6 +1,7 @@
 // The separators and brackets of a record: a constant text in an array of three bytes.
 ghost use mathlib.Core.Path.{_≡_};
-ghost use Rattle.agreement.specs.Call.{bracket, plainClose, emptyClose};
+ghost use mathlib.Core.Bool.{true, false};
+ghost use Rattle.agreement.specs.Call.{bracket, plainClose, emptyClose, firstSep, laterSep};
 ghost use Rattle.agreement.specs.Ledger.{separator};
 ghost use Rattle.writer_backend.specs.Words.{textOfWord};
 use agreement::Kind;
@@ -80,42 +81,26 @@ pub fn empty_close(k: Kind) -> Word
     }
 }
 
-// What stands before a field or an entry.
-pub fn separator_of(k: Kind, has: bool, alt: bool) -> Word
-    ensures { λ r. ⌜ textOfWord r ≡ separator k has alt ⌝ }
+// What stands before a later field or entry.
+fn later_separator(alt: bool) -> Word
+    ensures { λ r. ⌜ textOfWord r ≡ laterSep alt ⌝ }
 {
-    if has {
-        if alt {
-            return Word {
-                bytes: [44, 10, 0],
-                len: 2,
-            };
-        }
+    if alt {
         return Word {
-            bytes: [44, 32, 0],
+            bytes: [44, 10, 0],
             len: 2,
         };
     }
-    if alt {
-        return match k {
-            Kind::Struct => Word {
-                bytes: [32, 123, 10],
-                len: 3,
-            },
-            Kind::Tuple => Word {
-                bytes: [40, 10, 0],
-                len: 2,
-            },
-            Kind::List => Word {
-                bytes: [91, 10, 0],
-                len: 2,
-            },
-            Kind::Set => Word {
-                bytes: [123, 10, 0],
-                len: 2,
-            },
-        };
+    Word {
+        bytes: [44, 32, 0],
+        len: 2,
     }
+}
+
+// What stands before the first field or entry, in plain form.
+fn plain_first(k: Kind) -> Word
+    ensures { λ r. ⌜ textOfWord r ≡ firstSep k false ⌝ }
+{
     match k {
         Kind::Struct => Word {
             bytes: [32, 123, 32],
@@ -134,4 +119,41 @@ pub fn separator_of(k: Kind, has: bool, alt: bool) -> Word
             len: 1,
         },
     }
+}
+
+// The same in alternate form.
+fn alternate_first(k: Kind) -> Word
+    ensures { λ r. ⌜ textOfWord r ≡ firstSep k true ⌝ }
+{
+    match k {
+        Kind::Struct => Word {
+            bytes: [32, 123, 10],
+            len: 3,
+        },
+        Kind::Tuple => Word {
+            bytes: [40, 10, 0],
+            len: 2,
+        },
+        Kind::List => Word {
+            bytes: [91, 10, 0],
+            len: 2,
+        },
+        Kind::Set => Word {
+            bytes: [123, 10, 0],
+            len: 2,
+        },
+    }
+}
+
+// What stands before a field or an entry.
+pub fn separator_of(k: Kind, has: bool, alt: bool) -> Word
+    ensures { λ r. ⌜ textOfWord r ≡ separator k has alt ⌝ }
+{
+    if has {
+        return later_separator(alt);
+    }
+    if alt {
+        return alternate_first(k);
+    }
+    plain_first(k)
 }

@@ -1,8 +1,8 @@
 use Prim.Native.Nat.{_≤_, _-_}
 use lib.ListN.{length}
 use borrow.Author.Needs.{needs}
-use Rattle.run_tests.proofs.print.hex.Statement.{statement}
-use Rattle.run_tests.proofs.print.hex.Tie as tie
+use Rattle.test_print.proofs.hex.Statement.{statement}
+use Rattle.test_print.proofs.hex.Tie as tie
 
 abbrev Inv-loop : tie.InvT-loop
 Inv-loop s i₀ i = i ≤ length s

@@ -1,4 +1,4 @@
-// What the cases print with.
+// What the test programs print with.
 use formatting::HexFormatting;
 use formatting::hex_as_ascii;
 use libc::STDOUT_FILENO;
