@@ -9,12 +9,12 @@ use Rattle.agreement.specs.Call.{Call, opens, place, value, sub, endsub,
 use Rattle.agreement.specs.Ledger.{ledger, fresh, Permitted}
 use Rattle.agreement.specs.Model.{counting, writing, Run, run, start, most}
 
--- every answer is 0
+-- demand 3, 'succeeds': every answer is 0
 abbrev pub AllDone : List ℕ → Type 0
 AllDone [] = Unit {0}
 AllDone (a ∷ r) = (a ≡ 0) × AllDone r
 
--- some answer is a
+-- demand 3: some answer is a
 pub data Has (a : ℕ) : List ℕ → Type 0 where
   here : {x : ℕ} {xs : List ℕ} → x ≡ a → Has a (x ∷ xs)
   there : {x : ℕ} {xs : List ℕ} → Has a xs → Has a (x ∷ xs)
@@ -43,19 +43,20 @@ pub record Proper (f : FormattingFlags) (cs : List Call) : Type 0 where
 abbrev pub definedText : FormattingFlags → List Call → List ℕ
 definedText f cs = ledger (fresh f) cs .text
 
--- a fresh counting run, and a fresh writing run from a cursor in a buffer
+-- Document 01, 'A nested record': a fresh counting run
 abbrev pub counted : FormattingFlags → List Call → Run
 counted f cs = run (start (counting 0) [] f) cs
 
+-- Document 01, 'A nested record': a fresh writing run, cursor p over bytes of any content
 abbrev pub written : FormattingFlags → List Call → List ℕ → ℕ → Run
 written f cs b p = run (start (writing p) b f) cs
 
--- counting answers 0 throughout and totals exactly the length of the defined text
+-- demand 3: counting answers 0 throughout and totals exactly the length of the defined text
 pub record Counted (f : FormattingFlags) (cs : List Call) : Type 0 where
   pub done : AllDone (counted f cs .answers)
   pub total : counted f cs .state .dev .mode ≡ counting (length (definedText f cs))
 
--- writing answers 0 throughout exactly when that count fits, leaving exactly that text; else some call answers 1 and no byte before the cursor has changed
+-- demand 3: writing answers 0 throughout exactly when that count fits, leaving exactly that text; else some call answers 1 and no byte before the cursor has changed
 pub record Written (f : FormattingFlags) (cs : List Call) (b : List ℕ) (p : ℕ) : Type 0 where
   pub exactly : AllDone (written f cs b p .answers) ↔ (p + length (definedText f cs) ≤ length b)
   pub cursor : p + length (definedText f cs) ≤ length b → written f cs b p .state .dev .mode ≡ writing (p + length (definedText f cs))
@@ -64,7 +65,7 @@ pub record Written (f : FormattingFlags) (cs : List Call) (b : List ℕ) (p : �
   pub before : length b < p + length (definedText f cs) → take p (written f cs b p .state .dev .bytes) ≡ take p b
   pub size : length (written f cs b p .state .dev .bytes) ≡ length b
 
--- for every permitted, closed list of calls that cuts strings only between characters, with a text of at most 2^64 - 1 bytes
+-- demand 3: for every permitted, closed list of calls that cuts strings only between characters, with a text of at most 2^64 - 1 bytes
 abbrev pub Demand3 : Type 0
 Demand3 =
     (f : FormattingFlags) (cs : List Call) → Proper f cs → length (definedText f cs) ≤ most →

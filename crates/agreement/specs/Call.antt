@@ -112,6 +112,7 @@ faultNumber (some a) = numberOf a
 abbrev pub valueFault : Value → ℕ
 valueFault v = faultNumber (inputFault v)
 
+-- 'The answer to a call', 3: a clamped range cuts a character
 abbrev pub cutNumber : Value → ℕ
 cutNumber v = faultNumber (cutFault v)
 

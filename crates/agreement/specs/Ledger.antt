@@ -117,6 +117,7 @@ abbrev pub unlessMet : ℕ → Ledger → Ledger → Ledger
 unlessMet zero a b = a
 unlessMet (suc n) a b = b
 
+-- 'ledger': what a call does to it, in either case
 abbrev pub feed : Ledger → Call → Ledger
 feed L c = unlessMet (meets L c) (apply L c) L
 
@@ -124,6 +125,7 @@ feed L c = unlessMet (meets L c) (apply L c) L
 abbrev pub fresh : FormattingFlags → Ledger
 fresh f = record { text = []; flags = f; pile = [] }
 
+-- 'ledger': it is fed the calls one after the other
 abbrev pub ledger : Ledger → List Call → Ledger
 ledger L [] = L
 ledger L (c ∷ cs) = ledger (feed L c) cs

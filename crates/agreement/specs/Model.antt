@@ -29,6 +29,7 @@ pub record Put : Type 0 where
   pub answer : ℕ
   pub dev : Dev
 
+-- 'A nested record': an answer with the output as it then is
 abbrev pub to : Mode → List ℕ → ℕ → Put
 to m b a = record { answer = a; dev = record { mode = m; bytes = b } }
 
@@ -66,6 +67,7 @@ tries d (t ∷ ts) =
     let r = tries (a .dev) ts in
     record { answer = hold (a .answer) (r .answer); dev = r .dev }
 
+-- 'A nested record', finish: a refused piece is answered, and the next ones are not tried
 abbrev pub goOn : ℕ → Put → Put → Put
 goOn zero r next = next
 goOn (suc a) r next = r

@@ -17,15 +17,18 @@ kindOf (suc zero) = Tuple
 kindOf (suc (suc zero)) = List
 kindOf (suc (suc (suc n))) = Set
 
+-- the number format of a sub-formatter's outer flags
 abbrev pub numFmtOf : ℕ → NumberFormatting
 numFmtOf zero = Decimal
 numFmtOf (suc zero) = Hexadecimal
 numFmtOf (suc (suc n)) = Binary
 
+-- the case of its hexadecimal digits
 abbrev pub hexFmtOf : ℕ → HexFormatting
 hexFmtOf zero = Upper
 hexFmtOf (suc n) = Lower
 
+-- alternate or not; whether a builder has a field
 abbrev pub isOne : ℕ → Bool
 isOne zero = false
 isOne (suc n) = true
@@ -38,9 +41,11 @@ builderOf n = builder (kindOf (n / 2 % 4)) (isOne (n / 8 % 2)) (n / 16 % 256)
 abbrev pub outerOf : ℕ → Entry
 outerOf n = outer (record { «num_fmt» = numFmtOf (n / 2 % 4); «hex_fmt» = hexFmtOf (n / 8 % 2); «is_alternate» = isOne (n / 16 % 2) }) (n / 32 % 65536)
 
+-- by the lowest bit
 abbrev pub byTag : ℕ → ℕ → Entry
 byTag zero n = builderOf n
 byTag (suc t) n = outerOf n
 
+-- Document 01, 'Rust forms that cannot come along': the open entry that a number of the stack is
 unfoldable pub entryOf : ℕ → Entry
 entryOf n = byTag (n % 2) n

@@ -23,9 +23,11 @@ stackOf s (suc d) = entryOf (getD s d 0) ∷ stackOf s d
 unfoldable pub depthOf : ℕ → ℕ
 depthOf d = cond (leb d 64) d 64
 
+-- Document 01, 'A nested record': the formatter that a head, its stack and the lent bytes are
 abbrev pub view : Head → List ℕ → List ℕ → State
 view h s b = record { dev = devOf (h .mode) b; flags = h .flags; margin = h .margin; stack = stackOf s (depthOf (h .depth)) }
 
+-- what a call answers, with the stack and the bytes as they then are
 abbrev pub viewOut : HStep → List ℕ → List ℕ → Out
 viewOut r s b = record { answer = r .answer; state = view (r .head) s b }
 
@@ -33,6 +35,7 @@ viewOut r s b = record { answer = r .answer; state = view (r .head) s b }
 abbrev pub viewF : Formatter → List ℕ → State
 viewF f b = view (f .head) (f .stack) b
 
+-- what a call on a formatter by value answers
 abbrev pub viewFOut : FStep → List ℕ → Out
 viewFOut r b = record { answer = r .answer; state = viewF (r .fmt) b }
 

@@ -18,6 +18,7 @@ use Rattle.agreement.specs.Call.{Call, field, opens, place, value, finish}
 use Rattle.agreement.specs.Agreement.{definedText, written}
 use Rattle.pwrapper.specs.Number.{displayText, debugText}
 
+-- 'Known pairs': a text and the bytes that the paper gives for it
 pub record Pair : Type 0 where
   pub text : List ℕ
   pub known : List ℕ

@@ -25,12 +25,13 @@ use Rattle.writer_backend.specs.Values.{bitsOf, valueOf}
 use Rattle.run.specs.declared.Op.{Op}
 use Rattle.run.specs.declared.Op.the-variants.{Open, Place, Finish, Sub, EndSub, Value, Nothing}
 
--- the flags that a number below 12 is: its third by 4 the number format, its half the case, its last bit alternate or not
+-- the number format that a number is
 abbrev pub numFmtAt : ℕ → NumberFormatting
 numFmtAt zero = Decimal
 numFmtAt (suc zero) = Hexadecimal
 numFmtAt (suc (suc n)) = Binary
 
+-- the flags that a number below 12 is: by four the number format, by two the case, its last bit alternate or not
 abbrev pub flagsAt : ℕ → FormattingFlags
 flagsAt a = record { «num_fmt» = numFmtAt (a / 4); «hex_fmt» = cond (eqb (a / 2 % 2) 0) Upper Lower; «is_alternate» = eqb (a % 2) 1 }
 
@@ -49,12 +50,15 @@ signedAt k a = cond (ltb a (2 ^ (k - 1))) (pos a) (negsuc (2 ^ k - 1 - a))
 abbrev pub unsignedAt : Form → ℕ → ℕ → Op
 unsignedAt m a b = cond (ltb b 4) (cond (ltb a (2 ^ bitsOf (widthAt b))) (Value (Unsigned m (widthAt b) a)) Nothing) Nothing
 
+-- the same of a signed integer
 abbrev pub integerAt : Form → ℕ → ℕ → Op
 integerAt m a b = cond (ltb b 4) (cond (ltb a (2 ^ bitsOf (widthAt b))) (Value (Signed m (widthAt b) (signedAt (bitsOf (widthAt b)) a))) Nothing) Nothing
 
+-- a character's code; one of more than 32 bits is no call
 abbrev pub charAt : Form → ℕ → Op
 charAt m a = cond (ltb a (2 ^ 32)) (Value (Char m a)) Nothing
 
+-- a byte and how often; more than a byte is no call
 abbrev pub repeatedAt : ℕ → ℕ → Op
 repeatedAt a b = cond (ltb a 256) (Value (Repeated a b)) Nothing
 

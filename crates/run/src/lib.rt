@@ -65,7 +65,7 @@ fn num_fmt_at(n: u64) -> NumberFormatting
     NumberFormatting::Binary
 }
 
-fn flags_at(a: u64) -> FormattingFlags
+pub fn flags_at(a: u64) -> FormattingFlags
     ensures { λ r. ⌜ r ≡ flagsAt a ⌝ }
 {
     let num_fmt = num_fmt_at(a / 4);

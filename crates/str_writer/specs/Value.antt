@@ -71,11 +71,12 @@ cutFault (str m s r) = cond (isBoundary s (saturated s r .start) && isBoundary s
 cutFault (ascii m s r) = none
 cutFault (repeated c n) = none
 
--- 'The answer to a call', 'A string': what a value refused with 1 leaves past the cursor in a room of n bytes, nothing except for quoted strings
+-- 'A string': the same of a text, bare or quoted
 abbrev pub stringLeaves : Form → ℕ → List ℕ → List ℕ
 stringLeaves display n t = []
 stringLeaves debug n t = quotedLeaves n t
 
+-- 'The answer to a call', 'A string': what a value refused with 1 leaves past the cursor in a room of n bytes, nothing except for quoted strings
 unfoldable pub leaves : ℕ → Value → List ℕ
 leaves n (integer m k z) = []
 leaves n (char m c) = []

@@ -12,6 +12,7 @@ abbrev pub asMode : ℕ → ℕ → Mode
 asMode zero n = writing n
 asMode (suc t) n = counting n
 
+-- the mode of a WriterBackend
 abbrev pub modeOf : WriterBackend → Mode
 modeOf w = asMode (w .counting) (w .number)
 
