@@ -33,7 +33,7 @@ within {w} {g} {a} b p e h = rw (← p) (lt-ltb a (2 ^ bitsOf w) (omega arith))
 pub beyond : {w : Width} {g a : ℕ} (b : ℕ) → w ≡ widthAt b → g + 1 ≡ 2 ^ bitsOf w → g < a → ltb a (2 ^ bitsOf (widthAt b)) ≡ false
 beyond {w} {g} {a} b p e h = rw (← p) (le-ltb a (2 ^ bitsOf w) (omega arith))
 
-half : (w : Width) → 2 ^ bitsOf w ≡ 2 * 2 ^ (bitsOf w - 1)
+pub half : (w : Width) → 2 ^ bitsOf w ≡ 2 * 2 ^ (bitsOf w - 1)
 half W8 = refl
 half W16 = refl
 half W32 = refl

@@ -100,7 +100,7 @@ fn width_at(n: u64) -> Width
 }
 
 // The greatest number of a width.
-fn greatest(width: Width) -> u64
+pub fn greatest(width: Width) -> u64
     ensures { λ r. ⌜ r + 1 ≡ 2 ^ bitsOf width ⌝ }
 {
     match width {
@@ -251,7 +251,7 @@ fn op_at(o: u64, a: u64, b: u64) -> Op
 }
 
 // One call. There is one call site for each function: the compiler then makes one loop of them all.
-fn call(h: Head, stack: &mut [u32; 64], buf: &mut [u8], op: Op, s: &[u8]) -> HStep
+pub fn call(h: Head, stack: &mut [u32; 64], buf: &mut [u8], op: Op, s: &[u8]) -> HStep
     ensures { λ r. ⌜ viewOut r (now (stack .exit)) (now (buf .exit)) ≡ stepOr (view h (now (stack .entry)) (now (buf .entry))) (callOf op (now (s .entry))) ⌝ }
 {
     match op {
