@@ -1,0 +1,19 @@
+use borrow.Author.Needs.{needs}
+use Rattle.sheet_line.specs.Begin.{layoutOf}
+use Rattle.sheet_line.proofs.begin.layout_of.Statement.{statement}
+use Rattle.sheet_line.proofs.begin.layout_of.Tie as tie
+
+returns : tie.Need-returns
+unfolding layoutOf
+returns c = rw (← c .before .same .ensures, c .if1 .taken)
+
+returns-2 : tie.Need-returns-2
+unfolding layoutOf
+returns-2 c = rw (← c .before .before .before .before .same .ensures, c .before .before .before .if1 .left, ← c .before .same2 .ensures, c .if2 .taken)
+
+returns-3 : tie.Need-returns-3
+unfolding layoutOf
+returns-3 c = rw (← c .before .before .before .before .same .ensures, c .before .before .before .if1 .left, ← c .before .same2 .ensures, c .if2 .left)
+
+pub layout-of-spec : {M : Type 1} → statement M
+layout-of-spec = tie.close (tie.spec (λ c. search needs) (λ c κs. search needs) returns (λ c. search needs) (λ c κs. search needs) returns-2 returns-3)

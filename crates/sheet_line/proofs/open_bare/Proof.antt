@@ -1,0 +1,19 @@
+use borrow.Author.Needs.{needs}
+use Rattle.sheet_line.specs.Line.{openBare}
+use Rattle.sheet_line.proofs.open_bare.Statement.{statement}
+use Rattle.sheet_line.proofs.open_bare.Tie as tie
+
+returns : tie.Need-returns
+unfolding openBare
+returns c = rw (← c .before .same .ensures, c .if1 .taken)
+
+returns-2 : tie.Need-returns-2
+unfolding openBare
+returns-2 c = rw (← c .before .before .before .before .same .ensures, c .before .before .before .if1 .left, ← c .before .same2 .ensures, c .if2 .taken)
+
+returns-3 : tie.Need-returns-3
+unfolding openBare
+returns-3 c = rw (← c .before .before .before .before .same .ensures, c .before .before .before .if1 .left, ← c .before .same2 .ensures, c .if2 .left)
+
+pub open-bare-spec : {M : Type 1} → statement M
+open-bare-spec = tie.close (tie.spec (λ c. search needs) (λ c κs. search needs) returns (λ c. search needs) (λ c κs. search needs) returns-2 returns-3)

@@ -1,0 +1,3 @@
+pub mod Begin
+pub mod Line
+pub mod Reading
