@@ -1,0 +1,3 @@
+pub mod Agrees
+pub mod Printing
+pub mod Stepping

@@ -1,0 +1,17 @@
+use native.Mathlib.Omega.{arith}
+use borrow.Author.Needs.{needs}
+use Rattle.fields.specs.Fields.{bytes}
+use Rattle.fields.specs.Decimal.{cell}
+use Rattle.fields.proofs.Cells.{cell-short}
+use Rattle.sheet.proofs.Printing.{At, next, laid}
+use Rattle.sheet.proofs.print.lay_end.Statement.{statement}
+use Rattle.sheet.proofs.print.lay_end.Tie as tie
+
+returns : tie.Need-returns
+returns c =
+    let b = c .before .before .before .before .before .before .before .before .before .before .before .before .before .before .args .out .now in
+    let a : At b (bytes "end,") 4 _ _ = record { whole = c .before .before .before .before .before .before .before .before .before .before .put .ensures; short = omega arith } in
+    laid (next 21 (cell (c .before .before .before .before .before .before .before .before .before .before .before .before .before .before .args .cursor) 44) _ _ (next 21 (cell (c .before .before .before .before .before .before .before .before .before .before .before .before .before .before .args .total) 44) _ _ a (c .before .before .before .before .before .before .put-number .ensures) (cell-short _ _ (search needs)) (omega arith)) (c .before .before .put-number2 .ensures) (cell-short _ _ (search needs)) (omega arith)) (omega arith)
+
+pub lay-end-spec : {M : Type 1} → statement M
+lay-end-spec = tie.close (tie.spec (λ c. search needs) (λ c κs. search needs) (λ c κs. search needs) (λ c κs. search needs) (λ c. search needs) returns)

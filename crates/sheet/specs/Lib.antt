@@ -1,0 +1,4 @@
+pub mod Sheet
+pub mod Printed
+pub mod SheetAgreement
+pub mod SheetView
