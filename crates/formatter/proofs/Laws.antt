@@ -10,11 +10,6 @@ use Rattle.agreement.specs.declared.Kind.the-variants.{Set}
 use Rattle.agreement.specs.declared.Entry.the-variants.{Builder as builder, Outer as outer}
 use Rattle.formatter.specs.Entries.{kindOf, numFmtOf, hexFmtOf, isOne, builderOf, outerOf, byTag, entryOf}
 use Rattle.formatter.specs.View.{depthOf}
-use native.Mathlib.Nat.{le-trans}
-use lib.IntN.{ℤ}
-use lib.Pow.{pow-mono}
-use mir.Syntax.{Width, w64}
-use mir.Val.{SFits, hbits}
 
 -- the last case of each part
 pub set-of : (n : ℕ) → (n ≡ 0 → ⊥) → (n ≡ 1 → ⊥) → (n ≡ 2 → ⊥) → Set ≡ kindOf n
@@ -83,7 +78,3 @@ depth-in d h = rw (le-leb d 64 h)
 pub depth-over : (d : ℕ) → 64 < d → 64 ≡ depthOf d
 unfolding depthOf
 depth-over d h = rw (lt-leb d 64 h)
-
--- an integer of a narrower type is an i64
-pub as-i64 : (w : Width) (x : ℤ) → hbits w ≤ 63 → SFits w x → SFits w64 x
-as-i64 w x h f = record { sfits = le-trans (f .sfits) (pow-mono h) }

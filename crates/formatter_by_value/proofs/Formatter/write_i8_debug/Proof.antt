@@ -2,9 +2,9 @@ use lib.Dec.{lit≤}
 use mir.Syntax.{w8, w64}
 use mir.ValLaws.{toZ-ofZ}
 use borrow.Author.Needs.{needs}
-use Rattle.formatter.proofs.Laws.{as-i64}
-use Rattle.formatter.proofs.Formatter.write_i8_debug.Statement.{statement}
-use Rattle.formatter.proofs.Formatter.write_i8_debug.Tie as tie
+use Rattle.formatter_by_value.proofs.Widths.{as-i64}
+use Rattle.formatter_by_value.proofs.Formatter.write_i8_debug.Statement.{statement}
+use Rattle.formatter_by_value.proofs.Formatter.write_i8_debug.Tie as tie
 
 cast-t9 : tie.Need-cast-t9
 cast-t9 c =

@@ -1,8 +1,8 @@
 use lib.ListN.{length}
 use borrow.Author.Tests.{lt-ltb, le-ltb}
 use Rattle.formatter.specs.View.{depthOf}
-use Rattle.formatter.proofs.Formatter.writing.Statement.{statement}
-use Rattle.formatter.proofs.Formatter.writing.Tie as tie
+use Rattle.formatter_by_value.proofs.Formatter.writing.Statement.{statement}
+use Rattle.formatter_by_value.proofs.Formatter.writing.Tie as tie
 
 returns : tie.Need-returns
 unfolding depthOf

@@ -1,8 +1,8 @@
 use mir.Syntax.{w64}
 use mir.ValLaws.{toZ-ofZ}
 use borrow.Author.Needs.{needs}
-use Rattle.formatter.proofs.Formatter.write_i64_debug.Statement.{statement}
-use Rattle.formatter.proofs.Formatter.write_i64_debug.Tie as tie
+use Rattle.formatter_by_value.proofs.Formatter.write_i64_debug.Statement.{statement}
+use Rattle.formatter_by_value.proofs.Formatter.write_i64_debug.Tie as tie
 
 returns : tie.Need-returns
 returns c =

@@ -1,0 +1,23 @@
+-- The state of the model that a formatter by value and the lent bytes are.
+use mathlib.Core.Bool.{cond}
+use mathlib.Core.List.{List}
+use Prim.Native.Nat.{ℕ}
+use lib.Dec.{ltb}
+use lib.ListN.{length}
+use Rattle.formatting.specs.declared.flags.FormattingFlags.{FormattingFlags}
+use Rattle.agreement.specs.Model.{State, Out, start, writing}
+use Rattle.formatter.specs.View.{view}
+use Rattle.formatter_by_value.specs.declared.Formatter.{Formatter}
+use Rattle.formatter_by_value.specs.declared.FStep.{FStep}
+
+-- Document 01, 'Rust forms that cannot come along': the stack of open entries in the formatter
+abbrev pub viewF : Formatter → List ℕ → State
+viewF f b = view (f .head) (f .stack) b
+
+-- what a call on a formatter by value answers
+abbrev pub viewFOut : FStep → List ℕ → Out
+viewFOut r b = record { answer = r .answer; state = viewF (r .fmt) b }
+
+-- Document 01, 'A nested record': a run starts fresh, cursor p over bytes of any content; 9 where the cursor exceeds the buffer's length
+abbrev pub begun : List ℕ → ℕ → FormattingFlags → Out
+begun b p f = record { answer = cond (ltb (length b) p) 9 0; state = start (writing p) b f }
