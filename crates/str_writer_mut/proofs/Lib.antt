@@ -1,0 +1,4 @@
+pub mod Again
+pub mod Lending
+pub mod Truncating
+pub mod Writing

@@ -1,0 +1,30 @@
+-- Document 01, 'The writer': the lent buffer and the cursor kept together.
+use mathlib.Core.Path.{_≡_}
+use mathlib.Core.List.{List}
+use Prim.Native.Nat.{ℕ}
+use lib.ListN.{length}
+use denote.Ref.{now, at-last}
+use Rattle.error.specs.declared.Answer.{Answer}
+use Rattle.formatting.specs.Flags.{defaultFlags}
+use Rattle.str_writer.specs.Value.{Value}
+use Rattle.str_writer.specs.Write.{Outcome, write}
+use Rattle.str_writer_mut.specs.declared.StrWriterMut.{StrWriterMut}
+use Rattle.str_writer_mut.specs.declared.WrittenTwice.{WrittenTwice}
+
+-- 'The writer': the same lent buffer with the bytes of an outcome, and its cursor
+abbrev pub after : StrWriterMut → Outcome → StrWriterMut
+after w o = record { buffer = at-last (w .buffer) (o .bytes); len = o .written .at }
+
+-- 'The writer': a call on the writer w answers r and leaves the writer w′, as an outcome says; the lent buffer keeps its length
+abbrev pub Gives : Answer → StrWriterMut → StrWriterMut → Outcome → Type 0
+Gives r w w′ o = (r ≡ o .written .answer) × ((w′ ≡ after w o) × (length (now (w′ .buffer)) ≡ length (now (w .buffer))))
+
+-- 'The writer': a write that finds the cursor and the bytes as the call before left them
+abbrev pub thenWrite : Outcome → Value → Outcome
+thenWrite o v = write defaultFlags (o .bytes) (o .written .at) v
+
+-- 'The writer': two writes answer r and leave the bytes b, where the first has the outcome o and the second writes v
+abbrev pub GivesTwice : WrittenTwice → List ℕ → Outcome → Value → Type 0
+GivesTwice r b o v =
+    (r ≡ record { at = thenWrite o v .written .at; first = o .written .answer; second = thenWrite o v .written .answer })
+    × (b ≡ thenWrite o v .bytes)
