@@ -119,11 +119,11 @@ writing-dev (suc t) n b h = absurd h
 abbrev ended : ℕ → Dev → Played
 ended e d = record { first = e; dev = d }
 
-pub counted : (f : FormattingFlags) (ds : List (Option Call)) (e : ℕ) (w : WriterBackend) (b : List ℕ)
-    → _≡_ {A = Played} (record { first = e; dev = devOf w b }) (playFrom 0 (start (counting 0) [] f) ds)
-    → _≡_ {A = Played} (record { first = e; dev = record { mode = counting (w .number); bytes = [] } }) (playFrom 0 (start (counting 0) [] f) ds)
-counted f ds e w b q =
-    let k = play-keep Counts counts-keeps 0 (start (counting 0) [] f) ds refl in
+pub counted : (n : ℕ) (f : FormattingFlags) (ds : List (Option Call)) (e : ℕ) (w : WriterBackend) (b : List ℕ)
+    → _≡_ {A = Played} (record { first = e; dev = devOf w b }) (playFrom 0 (start (counting n) [] f) ds)
+    → _≡_ {A = Played} (record { first = e; dev = record { mode = counting (w .number); bytes = [] } }) (playFrom 0 (start (counting n) [] f) ds)
+counted n f ds e w b q =
+    let k = play-keep Counts counts-keeps 0 (start (counting n) [] f) ds refl in
     ap (ended e) (counting-dev (w .counting) (w .number) b (subst (λ (r : Played). On Counts (r .dev)) (sym q) k)) ∙ q
 
 pub written : (f : FormattingFlags) (ds : List (Option Call)) (b0 : List ℕ) (p : ℕ) (e : ℕ) (w : WriterBackend) (b : List ℕ)

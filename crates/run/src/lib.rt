@@ -321,22 +321,29 @@ fn play(
     }
 }
 
+// Counts a run from a total that there is already: its first refusal and the total at the end.
+pub fn count_run_from(total: usize, flags: FormattingFlags, calls: &[u64], text: &[u8]) -> Ran
+    ensures { λ r. ⌜ record { first = r .first; dev = record { mode = counting (r .number); bytes = [] } } ≡ playFrom 0 (start (counting total) [] flags) (decode (now (calls .entry)) (now (text .entry))) ⌝ }
+{
+    let mode = WriterBackend {
+        counting: 1,
+        number: total,
+    };
+    let mut none = [0u8; 0];
+    let end = play(mode, flags, &mut none, calls, text);
+    let counted = end.mode;
+    Ran {
+        first: end.first,
+        number: counted.number,
+    }
+}
+
 // Counts a run: its first refusal and its total.
 pub fn count_run(flags: FormattingFlags, calls: &[u64], text: &[u8]) -> Ran
     ensures { λ r. ⌜ record { first = r .first; dev = record { mode = counting (r .number); bytes = [] } } ≡ playFrom 0 (start (counting 0) [] flags) (decode (now (calls .entry)) (now (text .entry))) ⌝ }
     ensures { λ r. ⌜ CountAgrees flags (decode (now (calls .entry)) (now (text .entry))) r ⌝ }
 {
-    let mode = WriterBackend {
-        counting: 1,
-        number: 0,
-    };
-    let mut none = [0u8; 0];
-    let end = play(mode, flags, &mut none, calls, text);
-    let total = end.mode;
-    Ran {
-        first: end.first,
-        number: total.number,
-    }
+    count_run_from(0, flags, calls, text)
 }
 
 // Writes a run from a cursor: its first refusal, 9 where the cursor is past the buffer, and the
