@@ -38,7 +38,7 @@ use Rattle.str_writer_mut.specs.declared.StrWriterMut.{StrWriterMut}
 use Rattle.str_writer_mut.proofs.StrWriterMut as T
 use Rattle.str_writer_mut.proofs.StrWriterMut.Laws as T′
 use Rattle.str_writer_mut.proofs.Writing.{calls}
-use Rattle.str_writer_mut.proofs.write_str as caller
+use Rattle.str_writer_mut.proofs.StrWriterMut.write_str as caller
 
 abbrev pub Wrote : (f : List ℕ → ℕ → List ℕ → Outcome) {M : Type 1} (𝓤 : URA M) (H : Heap 𝓤) (A : Atoms 𝓤) → Contract 𝓤
 Wrote f 𝓤 H A = tripleOf 𝓤 H A caller.signature (closing 𝓤 H A caller.ended (calls f 𝓤))

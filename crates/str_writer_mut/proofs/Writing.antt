@@ -58,7 +58,7 @@ use Rattle.str_writer_mut.specs.Writer.{after, Gives}
 use Rattle.str_writer_mut.proofs.StrWriterMut as T
 use Rattle.str_writer_mut.proofs.StrWriterMut.Laws as T′
 use Rattle.str_writer_mut.proofs.Again.{LentAgain, lends-again, comes-back}
-use Rattle.str_writer_mut.proofs.write_str as caller
+use Rattle.str_writer_mut.proofs.StrWriterMut.write_str as caller
 
 -- the struct at the second of the signature's lifetimes
 abbrev WriterS : Slot 3

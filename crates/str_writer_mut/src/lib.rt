@@ -14,58 +14,6 @@ pub struct StrWriterMut<'w> {
     pub len: usize,
 }
 
-// What two writes answer, and where the cursor then is.
-pub struct WrittenTwice {
-    pub at: usize,
-    pub first: Answer,
-    pub second: Answer,
-}
-
-// A writer that goes on at a cursor. Where it is past the buffer, every call on the writer answers 9.
-pub fn from_custom<'w>(buffer: &'w mut [u8], length: usize) -> StrWriterMut<'w>
-    ensures { λ r. ⌜ (r .buffer ≡ buffer .entry) × (r .len ≡ length) ⌝ }
-{
-    StrWriterMut {
-        buffer: buffer,
-        len: length,
-    }
-}
-
-// A writer that begins with an empty text.
-pub fn from_custom_cleared<'w>(buffer: &'w mut [u8]) -> StrWriterMut<'w>
-    ensures { λ r. ⌜ (r .buffer ≡ buffer .entry) × (r .len ≡ 0) ⌝ }
-{
-    StrWriterMut {
-        buffer: buffer,
-        len: 0,
-    }
-}
-
-// The length of the text.
-pub fn len<'s, 'w>(w: &'s mut StrWriterMut<'w>) -> usize
-    ensures { λ r. ⌜ (r ≡ now (w .entry) .len) × (now (w .exit) ≡ now (w .entry)) ⌝ }
-{
-    w.len
-}
-
-pub fn write_str<'s, 'w, 'b>(w: &'s mut StrWriterMut<'w>, s: &'b [u8]) -> Answer
-    ensures { λ r. ⌜ Gives r (now (w .entry)) (now (w .exit)) (write defaultFlags (now (now (w .entry) .buffer)) (now (w .entry) .len) (str display (now (s .entry)) (whole (now (s .entry))))) ⌝ }
-{
-    let at = w.len;
-    let r = str_writer::write_str(&mut *w.buffer, at, s);
-    w.len = r.at;
-    r.answer
-}
-
-pub fn write_str_debug<'s, 'w, 'b>(w: &'s mut StrWriterMut<'w>, s: &'b [u8]) -> Answer
-    ensures { λ r. ⌜ Gives r (now (w .entry)) (now (w .exit)) (write defaultFlags (now (now (w .entry) .buffer)) (now (w .entry) .len) (str debug (now (s .entry)) (whole (now (s .entry))))) ⌝ }
-{
-    let at = w.len;
-    let r = str_writer::write_str_debug(&mut *w.buffer, at, s);
-    w.len = r.at;
-    r.answer
-}
-
 // truncate and truncate_utf8 of crate str_writer, on the slice as a writer lends it.
 fn truncate_at(buf: &mut [u8], at: usize, length: usize) -> Written
     ensures { λ r. ⌜ outcome r (now (buf .exit)) ≡ outcome (truncated (now (buf .entry)) at length) (now (buf .entry)) ⌝ }
@@ -79,24 +27,75 @@ fn truncate_utf8_at(buf: &mut [u8], at: usize, length: usize) -> Written
     str_writer::truncate_utf8(buf, at, length)
 }
 
-// truncate for NoEncoding.
-pub fn truncate<'s, 'w>(w: &'s mut StrWriterMut<'w>, length: usize) -> Answer
-    ensures { λ r. ⌜ Gives r (now (w .entry)) (now (w .exit)) (outcome (truncated (now (now (w .entry) .buffer)) (now (w .entry) .len) length) (now (now (w .entry) .buffer))) ⌝ }
-{
-    let at = w.len;
-    let r = truncate_at(&mut *w.buffer, at, length);
-    w.len = r.at;
-    r.answer
+impl<'w> StrWriterMut<'w> {
+    // A writer that goes on at a cursor. Where the cursor is past the buffer, each write answers 9.
+    pub fn from_custom(buffer: &'w mut [u8], length: usize) -> Self
+        ensures { λ r. ⌜ (r .buffer ≡ buffer .entry) × (r .len ≡ length) ⌝ }
+    {
+        Self {
+            buffer,
+            len: length,
+        }
+    }
+
+    // A writer that begins with an empty text.
+    pub fn from_custom_cleared(buffer: &'w mut [u8]) -> Self
+        ensures { λ r. ⌜ (r .buffer ≡ buffer .entry) × (r .len ≡ 0) ⌝ }
+    {
+        Self { buffer, len: 0 }
+    }
+
+    // The length of the text. The writer is lent as for a write, and is as it was.
+    pub fn len(&mut self) -> usize
+        ensures { λ r. ⌜ (r ≡ now (self .entry) .len) × (now (self .exit) ≡ now (self .entry)) ⌝ }
+    {
+        self.len
+    }
+
+    pub fn write_str(&mut self, s: &[u8]) -> Answer
+        ensures { λ r. ⌜ Gives r (now (self .entry)) (now (self .exit)) (write defaultFlags (now (now (self .entry) .buffer)) (now (self .entry) .len) (str display (now (s .entry)) (whole (now (s .entry))))) ⌝ }
+    {
+        let at = self.len;
+        let r = str_writer::write_str(&mut *self.buffer, at, s);
+        self.len = r.at;
+        r.answer
+    }
+
+    pub fn write_str_debug(&mut self, s: &[u8]) -> Answer
+        ensures { λ r. ⌜ Gives r (now (self .entry)) (now (self .exit)) (write defaultFlags (now (now (self .entry) .buffer)) (now (self .entry) .len) (str debug (now (s .entry)) (whole (now (s .entry))))) ⌝ }
+    {
+        let at = self.len;
+        let r = str_writer::write_str_debug(&mut *self.buffer, at, s);
+        self.len = r.at;
+        r.answer
+    }
+
+    // truncate for NoEncoding.
+    pub fn truncate(&mut self, length: usize) -> Answer
+        ensures { λ r. ⌜ Gives r (now (self .entry)) (now (self .exit)) (outcome (truncated (now (now (self .entry) .buffer)) (now (self .entry) .len) length) (now (now (self .entry) .buffer))) ⌝ }
+    {
+        let at = self.len;
+        let r = truncate_at(&mut *self.buffer, at, length);
+        self.len = r.at;
+        r.answer
+    }
+
+    // truncate for Utf8Encoding.
+    pub fn truncate_utf8(&mut self, length: usize) -> Answer
+        ensures { λ r. ⌜ Gives r (now (self .entry)) (now (self .exit)) (outcome (truncatedUtf8 (now (now (self .entry) .buffer)) (now (self .entry) .len) length) (now (now (self .entry) .buffer))) ⌝ }
+    {
+        let at = self.len;
+        let r = truncate_utf8_at(&mut *self.buffer, at, length);
+        self.len = r.at;
+        r.answer
+    }
 }
 
-// truncate for Utf8Encoding.
-pub fn truncate_utf8<'s, 'w>(w: &'s mut StrWriterMut<'w>, length: usize) -> Answer
-    ensures { λ r. ⌜ Gives r (now (w .entry)) (now (w .exit)) (outcome (truncatedUtf8 (now (now (w .entry) .buffer)) (now (w .entry) .len) length) (now (now (w .entry) .buffer))) ⌝ }
-{
-    let at = w.len;
-    let r = truncate_utf8_at(&mut *w.buffer, at, length);
-    w.len = r.at;
-    r.answer
+// What two writes answer, and where the cursor then is.
+pub struct WrittenTwice {
+    pub at: usize,
+    pub first: Answer,
+    pub second: Answer,
 }
 
 // A string and after it a quoted string, through one writer: its parameters are plain, so that
@@ -104,9 +103,9 @@ pub fn truncate_utf8<'s, 'w>(w: &'s mut StrWriterMut<'w>, length: usize) -> Answ
 pub fn write_str_then_debug(buffer: &mut [u8], length: usize, s: &[u8], t: &[u8]) -> WrittenTwice
     ensures { λ r. ⌜ GivesTwice r (now (buffer .exit)) (write defaultFlags (now (buffer .entry)) length (str display (now (s .entry)) (whole (now (s .entry))))) (str debug (now (t .entry)) (whole (now (t .entry)))) ⌝ }
 {
-    let mut w = from_custom(buffer, length);
-    let first = write_str(&mut w, s);
-    let second = write_str_debug(&mut w, t);
+    let mut w = StrWriterMut::from_custom(buffer, length);
+    let first = w.write_str(s);
+    let second = w.write_str_debug(t);
     WrittenTwice {
         at: w.len,
         first,

@@ -55,17 +55,17 @@ use Rattle.str_writer_mut.proofs.WrittenTwice as P
 use Rattle.str_writer_mut.proofs.WrittenTwice.Laws as P′
 use Rattle.str_writer_mut.proofs.Writing.{calls, answerVal}
 use Rattle.str_writer_mut.proofs.Lending.{Wrote, R, α, mach, to-write, toks, Loan, Ready, lends, back}
-use Rattle.str_writer_mut.proofs.write_str as caller
-use Rattle.str_writer_mut.proofs.from_custom as made-by
-use Rattle.str_writer_mut.proofs.from_custom.Symbol as from-custom-def
-use Rattle.str_writer_mut.proofs.from_custom.Symbol.{name as #from-custom}
-use Rattle.str_writer_mut.proofs.from_custom.Met as from-custom-thm
-use Rattle.str_writer_mut.proofs.write_str.Symbol as write-str-def
-use Rattle.str_writer_mut.proofs.write_str.Symbol.{name as #write-str}
-use Rattle.str_writer_mut.proofs.write_str.Met as write-str-thm
-use Rattle.str_writer_mut.proofs.write_str_debug.Symbol as write-str-debug-def
-use Rattle.str_writer_mut.proofs.write_str_debug.Symbol.{name as #write-str-debug}
-use Rattle.str_writer_mut.proofs.write_str_debug.Met as write-str-debug-thm
+use Rattle.str_writer_mut.proofs.StrWriterMut.write_str as caller
+use Rattle.str_writer_mut.proofs.StrWriterMut.from_custom as made-by
+use Rattle.str_writer_mut.proofs.StrWriterMut.from_custom.Symbol as from-custom-def
+use Rattle.str_writer_mut.proofs.StrWriterMut.from_custom.Symbol.{name as #from-custom}
+use Rattle.str_writer_mut.proofs.StrWriterMut.from_custom.Met as from-custom-thm
+use Rattle.str_writer_mut.proofs.StrWriterMut.write_str.Symbol as write-str-def
+use Rattle.str_writer_mut.proofs.StrWriterMut.write_str.Symbol.{name as #write-str}
+use Rattle.str_writer_mut.proofs.StrWriterMut.write_str.Met as write-str-thm
+use Rattle.str_writer_mut.proofs.StrWriterMut.write_str_debug.Symbol as write-str-debug-def
+use Rattle.str_writer_mut.proofs.StrWriterMut.write_str_debug.Symbol.{name as #write-str-debug}
+use Rattle.str_writer_mut.proofs.StrWriterMut.write_str_debug.Met as write-str-debug-thm
 use Rattle.str_writer_mut.proofs.write_str_then_debug.Key.{name as #twice}
 use Rattle.str_writer_mut.proofs.write_str_then_debug as twice
 use Rattle.str_writer_mut.proofs.write_str_then_debug.Statement as stated
@@ -259,6 +259,6 @@ write-str-then-debug-spec 𝓤 H 𝓜 𝓖 𝓡 =
     entered 𝓤 H (tripleOf 𝓤 H (𝓖 .A) twice.signature (twice.spec 𝓤 H (𝓖 .A) (𝓜 .mem) (𝓡 .run)))
     (tables 𝓤 H 𝓜 𝓡 code.env .C) (tables 𝓤 H 𝓜 𝓡 code.env .Λ) #twice code.function (code.unfolded 𝓤 H 𝓜 𝓡)
     (meets 𝓤 H (𝓖 .A) (givenOf 𝓤 H 𝓜 𝓖) (𝓜 .mem) (𝓡 .run) (tablesOf 𝓤 H 𝓜 (tables 𝓤 H 𝓜 𝓡 code.env))
-    (cited 𝓤 H (New 𝓤 H (𝓖 .A) (𝓜 .mem) (𝓡 .run)) 𝓜 𝓡 code.env #from-custom from-custom-def.routine code.calls-str-writer-mut·from-custom (from-custom-thm.met 𝓤 H 𝓜 𝓖 𝓡))
-    (cited 𝓤 H (Wrote f₁ 𝓤 H (𝓖 .A)) 𝓜 𝓡 code.env #write-str write-str-def.routine code.calls-str-writer-mut·write-str (write-str-thm.met 𝓤 H 𝓜 𝓖 𝓡))
-    (cited 𝓤 H (Wrote f₂ 𝓤 H (𝓖 .A)) 𝓜 𝓡 code.env #write-str-debug write-str-debug-def.routine code.calls-str-writer-mut·write-str-debug (write-str-debug-thm.met 𝓤 H 𝓜 𝓖 𝓡)))
+    (cited 𝓤 H (New 𝓤 H (𝓖 .A) (𝓜 .mem) (𝓡 .run)) 𝓜 𝓡 code.env #from-custom from-custom-def.routine code.calls-str-writer-mut·StrWriterMut·from-custom (from-custom-thm.met 𝓤 H 𝓜 𝓖 𝓡))
+    (cited 𝓤 H (Wrote f₁ 𝓤 H (𝓖 .A)) 𝓜 𝓡 code.env #write-str write-str-def.routine code.calls-str-writer-mut·StrWriterMut·write-str (write-str-thm.met 𝓤 H 𝓜 𝓖 𝓡))
+    (cited 𝓤 H (Wrote f₂ 𝓤 H (𝓖 .A)) 𝓜 𝓡 code.env #write-str-debug write-str-debug-def.routine code.calls-str-writer-mut·StrWriterMut·write-str-debug (write-str-debug-thm.met 𝓤 H 𝓜 𝓖 𝓡)))

@@ -1,4 +1,4 @@
--- `str_writer_mut::len` meets its contract: a walk of its MIR, by hand. The borrow of the writer is opened, its cursor is read, and the borrow is closed at the same record.
+-- `str_writer_mut::StrWriterMut::len` meets its contract: a walk of its MIR, by hand. The borrow of the writer is opened, its cursor is read, and the borrow is closed at the same record.
 -- Assumes nothing.
 use mathlib.Core.Path.{_≡_, refl}
 use Prim.Native.Nat.{ℕ, _<_, _^_}
@@ -40,10 +40,10 @@ use denote.Signature.{Slot, plain, namedLft}
 use Rattle.str_writer_mut.specs.declared.StrWriterMut.{StrWriterMut}
 use Rattle.str_writer_mut.proofs.StrWriterMut as T
 use Rattle.str_writer_mut.proofs.StrWriterMut.Laws as T′
-use Rattle.str_writer_mut.proofs.len.Key.{name as #len}
-use Rattle.str_writer_mut.proofs.len as len′
-use Rattle.str_writer_mut.proofs.len.Statement as stated
-use Rattle.str_writer_mut.proofs.len.Code as code
+use Rattle.str_writer_mut.proofs.StrWriterMut.len.Key.{name as #len}
+use Rattle.str_writer_mut.proofs.StrWriterMut.len as len′
+use Rattle.str_writer_mut.proofs.StrWriterMut.len.Statement as stated
+use Rattle.str_writer_mut.proofs.StrWriterMut.len.Code as code
 
 -- the struct at the second of the signature's lifetimes
 abbrev WriterS : Slot 2

@@ -1,4 +1,4 @@
--- `str_writer_mut::truncate` meets its contract: `Truncating.antt`'s walk, at the covered function.
+-- `str_writer_mut::StrWriterMut::truncate` meets its contract: `Truncating.antt`'s walk, at the covered function.
 use contract.Running.{givenOf, tables, tablesOf}
 use denote.Triple.Spec.{tripleOf}
 use denote.Triple.Table.{entered, cited}
@@ -10,10 +10,10 @@ use Rattle.str_writer_mut.proofs.truncate_at.Symbol as callee-def
 use Rattle.str_writer_mut.proofs.truncate_at.Symbol.{name as #callee}
 use Rattle.str_writer_mut.proofs.truncate_at.Met as callee-thm
 use Rattle.str_writer_mut.proofs.Truncating.{Called, meets}
-use Rattle.str_writer_mut.proofs.truncate.Key.{name as #truncate}
-use Rattle.str_writer_mut.proofs.truncate as truncate
-use Rattle.str_writer_mut.proofs.truncate.Statement as stated
-use Rattle.str_writer_mut.proofs.truncate.Code as code
+use Rattle.str_writer_mut.proofs.StrWriterMut.truncate.Key.{name as #truncate}
+use Rattle.str_writer_mut.proofs.StrWriterMut.truncate as truncate
+use Rattle.str_writer_mut.proofs.StrWriterMut.truncate.Statement as stated
+use Rattle.str_writer_mut.proofs.StrWriterMut.truncate.Code as code
 
 abbrev f : List ℕ → ℕ → ℕ → Outcome
 f b at n = outcome (truncated b at n) b

@@ -1,4 +1,4 @@
--- `str_writer_mut::truncate_utf8` meets its contract: `Truncating.antt`'s walk, at the covered function.
+-- `str_writer_mut::StrWriterMut::truncate_utf8` meets its contract: `Truncating.antt`'s walk, at the covered function.
 use contract.Running.{givenOf, tables, tablesOf}
 use denote.Triple.Spec.{tripleOf}
 use denote.Triple.Table.{entered, cited}
@@ -10,10 +10,10 @@ use Rattle.str_writer_mut.proofs.truncate_utf8_at.Symbol as callee-def
 use Rattle.str_writer_mut.proofs.truncate_utf8_at.Symbol.{name as #callee}
 use Rattle.str_writer_mut.proofs.truncate_utf8_at.Met as callee-thm
 use Rattle.str_writer_mut.proofs.Truncating.{Called, meets}
-use Rattle.str_writer_mut.proofs.truncate_utf8.Key.{name as #truncate-utf8}
-use Rattle.str_writer_mut.proofs.truncate_utf8 as truncate-utf8
-use Rattle.str_writer_mut.proofs.truncate_utf8.Statement as stated
-use Rattle.str_writer_mut.proofs.truncate_utf8.Code as code
+use Rattle.str_writer_mut.proofs.StrWriterMut.truncate_utf8.Key.{name as #truncate-utf8}
+use Rattle.str_writer_mut.proofs.StrWriterMut.truncate_utf8 as truncate-utf8
+use Rattle.str_writer_mut.proofs.StrWriterMut.truncate_utf8.Statement as stated
+use Rattle.str_writer_mut.proofs.StrWriterMut.truncate_utf8.Code as code
 
 abbrev f : List ℕ → ℕ → ℕ → Outcome
 f b at n = outcome (truncatedUtf8 b at n) b

@@ -1,4 +1,4 @@
--- `str_writer_mut::from_custom` meets its contract: a walk of its MIR, by hand. The borrow of the slice goes into the result as it is, beside the number.
+-- `str_writer_mut::StrWriterMut::from_custom` meets its contract: a walk of its MIR, by hand. The borrow of the slice goes into the result as it is, beside the number.
 -- The slice is spent: the result names its lifetime, so nothing is had of it at exit, and `buffer .entry` is all that the contract can say.
 -- Assumes nothing.
 use mathlib.Core.Path.{refl}
@@ -37,10 +37,10 @@ use denote.Exit.{no, yes}
 use Rattle.str_writer_mut.specs.declared.StrWriterMut.{StrWriterMut}
 use Rattle.str_writer_mut.proofs.StrWriterMut as T
 use Rattle.str_writer_mut.proofs.StrWriterMut.Laws as T′
-use Rattle.str_writer_mut.proofs.from_custom.Key.{name as #from-custom}
-use Rattle.str_writer_mut.proofs.from_custom as made-by
-use Rattle.str_writer_mut.proofs.from_custom.Statement as stated
-use Rattle.str_writer_mut.proofs.from_custom.Code as code
+use Rattle.str_writer_mut.proofs.StrWriterMut.from_custom.Key.{name as #from-custom}
+use Rattle.str_writer_mut.proofs.StrWriterMut.from_custom as made-by
+use Rattle.str_writer_mut.proofs.StrWriterMut.from_custom.Statement as stated
+use Rattle.str_writer_mut.proofs.StrWriterMut.from_custom.Code as code
 
 abbrev stayed : Stays (made-by.ended .signature .params) (made-by.ended .kept)
 stayed = (stay-dropped (mutSliceOf (0 ∷ []) tt (plain (λ _. u8))) no, (stay-none (λ _. usize) yes, tt))

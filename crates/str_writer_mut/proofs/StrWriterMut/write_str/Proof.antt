@@ -1,4 +1,4 @@
--- `str_writer_mut::write_str` meets its contract: `Writing.antt`'s walk, at the covered function of the same name.
+-- `str_writer_mut::StrWriterMut::write_str` meets its contract: `Writing.antt`'s walk, at the covered function of the same name.
 use contract.Running.{givenOf, tables, tablesOf}
 use denote.Triple.Spec.{tripleOf}
 use denote.Triple.Table.{entered, cited}
@@ -11,10 +11,10 @@ use Rattle.str_writer.proofs.write_str.Symbol as callee-def
 use Rattle.str_writer.proofs.write_str.Symbol.{name as #callee}
 use Rattle.str_writer.proofs.write_str.Met as callee-thm
 use Rattle.str_writer_mut.proofs.Writing.{Called, meets}
-use Rattle.str_writer_mut.proofs.write_str.Key.{name as #write-str}
-use Rattle.str_writer_mut.proofs.write_str as write-str
-use Rattle.str_writer_mut.proofs.write_str.Statement as stated
-use Rattle.str_writer_mut.proofs.write_str.Code as code
+use Rattle.str_writer_mut.proofs.StrWriterMut.write_str.Key.{name as #write-str}
+use Rattle.str_writer_mut.proofs.StrWriterMut.write_str as write-str
+use Rattle.str_writer_mut.proofs.StrWriterMut.write_str.Statement as stated
+use Rattle.str_writer_mut.proofs.StrWriterMut.write_str.Code as code
 
 abbrev f : List ℕ → ℕ → List ℕ → Outcome
 f b at s = write defaultFlags b at (str display s (whole s))

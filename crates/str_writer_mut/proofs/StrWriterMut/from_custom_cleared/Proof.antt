@@ -1,4 +1,4 @@
--- `str_writer_mut::from_custom_cleared` meets its contract: a walk of its MIR, by hand. The borrow of the slice goes into the result as it is, beside the number 0.
+-- `str_writer_mut::StrWriterMut::from_custom_cleared` meets its contract: a walk of its MIR, by hand. The borrow of the slice goes into the result as it is, beside the number 0.
 -- The parameter is spent: the result names its lifetime, so nothing is had of it at exit, and `buffer .entry` is all that the contract can say.
 -- Assumes nothing.
 use mathlib.Core.Path.{refl}
@@ -38,10 +38,10 @@ use denote.Exit.{no}
 use Rattle.str_writer_mut.specs.declared.StrWriterMut.{StrWriterMut}
 use Rattle.str_writer_mut.proofs.StrWriterMut as T
 use Rattle.str_writer_mut.proofs.StrWriterMut.Laws as T′
-use Rattle.str_writer_mut.proofs.from_custom_cleared.Key.{name as #from-custom-cleared}
-use Rattle.str_writer_mut.proofs.from_custom_cleared as made-by
-use Rattle.str_writer_mut.proofs.from_custom_cleared.Statement as stated
-use Rattle.str_writer_mut.proofs.from_custom_cleared.Code as code
+use Rattle.str_writer_mut.proofs.StrWriterMut.from_custom_cleared.Key.{name as #from-custom-cleared}
+use Rattle.str_writer_mut.proofs.StrWriterMut.from_custom_cleared as made-by
+use Rattle.str_writer_mut.proofs.StrWriterMut.from_custom_cleared.Statement as stated
+use Rattle.str_writer_mut.proofs.StrWriterMut.from_custom_cleared.Code as code
 
 abbrev stayed : Stays (made-by.ended .signature .params) (made-by.ended .kept)
 stayed = (stay-dropped (mutSliceOf (0 ∷ []) tt (plain (λ _. u8))) no, tt)

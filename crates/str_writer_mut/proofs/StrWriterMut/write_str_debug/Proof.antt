@@ -1,4 +1,4 @@
--- `str_writer_mut::write_str_debug` meets its contract: `Writing.antt`'s walk, at the covered function of the same name.
+-- `str_writer_mut::StrWriterMut::write_str_debug` meets its contract: `Writing.antt`'s walk, at the covered function of the same name.
 use contract.Running.{givenOf, tables, tablesOf}
 use denote.Triple.Spec.{tripleOf}
 use denote.Triple.Table.{entered, cited}
@@ -11,10 +11,10 @@ use Rattle.str_writer.proofs.write_str_debug.Symbol as callee-def
 use Rattle.str_writer.proofs.write_str_debug.Symbol.{name as #callee}
 use Rattle.str_writer.proofs.write_str_debug.Met as callee-thm
 use Rattle.str_writer_mut.proofs.Writing.{Called, meets}
-use Rattle.str_writer_mut.proofs.write_str_debug.Key.{name as #write-str-debug}
-use Rattle.str_writer_mut.proofs.write_str_debug as write-str-debug
-use Rattle.str_writer_mut.proofs.write_str_debug.Statement as stated
-use Rattle.str_writer_mut.proofs.write_str_debug.Code as code
+use Rattle.str_writer_mut.proofs.StrWriterMut.write_str_debug.Key.{name as #write-str-debug}
+use Rattle.str_writer_mut.proofs.StrWriterMut.write_str_debug as write-str-debug
+use Rattle.str_writer_mut.proofs.StrWriterMut.write_str_debug.Statement as stated
+use Rattle.str_writer_mut.proofs.StrWriterMut.write_str_debug.Code as code
 
 abbrev f : List ℕ → ℕ → List ℕ → Outcome
 f b at s = write defaultFlags b at (str debug s (whole s))
