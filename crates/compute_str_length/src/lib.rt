@@ -8,7 +8,7 @@ ghost use Rattle.agreement.specs.Model.{start, counting};
 ghost use Rattle.run.specs.Encoding.{decode};
 ghost use Rattle.run.specs.Played.{Played, playFrom};
 ghost use Rattle.run.specs.declared.Ran.{Ran};
-ghost use Rattle.compute_str_length.specs.Total.{addTo};
+ghost use Rattle.compute_str_length.specs.Total.{addTo, CountsThenAdds};
 use formatting::FormattingFlags;
 use run::Ran;
 use run::count_run_from;
@@ -70,5 +70,32 @@ impl ComputeStrLength {
         let r = count_run_from(self.len, flags, calls, text);
         self.len = r.number;
         r.first
+    }
+}
+
+// What a run and a length added after it answer, by document 01's numbers, and the total at the end.
+pub struct CountedThenAdded {
+    pub total: usize,
+    pub first: u8,
+    pub second: u8,
+}
+
+// A run counted and a length added after it, through one counter: its parameters are plain, so that
+// callers need no counter of their own. The length is added also where the run meets a refusal.
+pub fn count_run_then_add_len(
+    flags: FormattingFlags,
+    calls: &[u64],
+    text: &[u8],
+    len: usize,
+) -> CountedThenAdded
+    ensures { λ r. ⌜ CountsThenAdds r (playFrom 0 (start (counting 0) [] flags) (decode (now (calls .entry)) (now (text .entry)))) len ⌝ }
+{
+    let mut c = ComputeStrLength::new();
+    let first = c.count_run(flags, calls, text);
+    let second = c.add_len(len);
+    CountedThenAdded {
+        total: c.len,
+        first,
+        second,
     }
 }

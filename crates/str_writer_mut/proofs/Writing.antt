@@ -15,7 +15,7 @@ use mir.Val.{Val, vint, vptr, vstruct, vnil, vcons}
 use base.Logic.{SProp, ent, emp, via, fst∗, id⊢}
 use base.Fml.{Lft, Share, GName, Fml, ftrue, fsep, fat, flft, fobs, fbor}
 use prog.Wp.{Heap, Calls, Loops, WpFn, Tables}
-use ghost.Atoms.{Atoms, sem}
+use ghost.Atoms.{Atoms}
 use contract.Monad.{fact}
 use contract.Lifetimes.{AllOutlive}
 use types.Kit.{Given, ‵, raw, given, some, later, _⊛_, ⋆, _$_, _∵_, !, qed, by, move, keep, drop, use1, use2, use3, split, join, pick, learn, rewrite, fsplit, fsplit3, fjoin, fjoin3, feqL, feqI, suffices, frame, await, done}
@@ -40,7 +40,7 @@ use denote.Triple.Entry.{onEntry}
 use denote.Triple.Spec.{Meets, tripleOf}
 use denote.Triple.Statement.{Contract, Triple}
 use denote.Triple.Call.{calls-at}
-use denote.Triple.Clauses.{Clauses, Ended, ensured, lasts, closing}
+use denote.Triple.Clauses.{Clauses, ensured, lasts, closing}
 use denote.Triple.Walked.{says, Stays, stay-ref, stay-none-slice, walkOf, goes-ref, goes-none-slice, Walks, ends-at, walked, walk-meets}
 use denote.Exit.{yes}
 use denote.Signature.{Slot, plain, namedLft}

@@ -54,7 +54,7 @@ use Rattle.str_writer_mut.proofs.StrWriterMut.Laws as T′
 use Rattle.str_writer_mut.proofs.WrittenTwice as P
 use Rattle.str_writer_mut.proofs.WrittenTwice.Laws as P′
 use Rattle.str_writer_mut.proofs.Writing.{calls, answerVal}
-use Rattle.str_writer_mut.proofs.Lending.{Wrote, R, α, mach, to-write, toks, Loan, Ready, lends, back}
+use Rattle.str_writer_mut.proofs.Lending.{Wrote, R, α, mach, to-write, toks, Ready, lends, back}
 use Rattle.str_writer_mut.proofs.StrWriterMut.write_str as caller
 use Rattle.str_writer_mut.proofs.StrWriterMut.from_custom as made-by
 use Rattle.str_writer_mut.proofs.StrWriterMut.from_custom.Symbol as from-custom-def

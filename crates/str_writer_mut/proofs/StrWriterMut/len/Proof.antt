@@ -1,6 +1,6 @@
 -- `str_writer_mut::StrWriterMut::len` meets its contract: a walk of its MIR, by hand. The borrow of the writer is opened, its cursor is read, and the borrow is closed at the same record.
 -- Assumes nothing.
-use mathlib.Core.Path.{_≡_, refl}
+use mathlib.Core.Path.{refl}
 use Prim.Native.Nat.{ℕ, _<_, _^_}
 use mathlib.Core.List.{[], _∷_, List}
 use lib.ListN.{length}
