@@ -19,11 +19,11 @@ after w o = record { buffer = at-last (w .buffer) (o .bytes); len = o .written .
 abbrev pub Gives : Answer → StrWriterMut → StrWriterMut → Outcome → Type 0
 Gives r w w′ o = (r ≡ o .written .answer) × ((w′ ≡ after w o) × (length (now (w′ .buffer)) ≡ length (now (w .buffer))))
 
--- 'The writer': a write that finds the cursor and the bytes as the call before left them
+-- 'A nested record': a write that gets the cursor and the bytes exactly as the call before left them
 abbrev pub thenWrite : Outcome → Value → Outcome
 thenWrite o v = write defaultFlags (o .bytes) (o .written .at) v
 
--- 'The writer': two writes answer r and leave the bytes b, where the first has the outcome o and the second writes v
+-- 'A nested record': two writes answer r and leave the bytes b, where the first has the outcome o and the second writes v
 abbrev pub GivesTwice : WrittenTwice → List ℕ → Outcome → Value → Type 0
 GivesTwice r b o v =
     (r ≡ record { at = thenWrite o v .written .at; first = o .written .answer; second = thenWrite o v .written .answer })
