@@ -1,0 +1,446 @@
+// A static library of single calls, for the comparison with the Rust: each export of this kind in
+// the library of whole runs would keep the compiler from making one loop of a run. A slice passes as
+// a pointer and a length. The answer is document 01's number; flags are a number as in table_text.
+ghost use mathlib.Core.Path.{_≡_};
+ghost use mathlib.Core.List.{List, []};
+ghost use Prim.Native.Nat.{ℕ};
+ghost use lib.IntN.{pos};
+ghost use Rattle.formatting.specs.Flags.{defaultFlags};
+ghost use Rattle.str_writer.specs.Value.{integer, char, str, ascii, repeated, display, debug, whole};
+ghost use Rattle.str_writer.specs.Write.{outcome, write};
+ghost use Rattle.str_writer.specs.Truncate.{truncated, truncatedUtf8};
+ghost use Rattle.agreement.specs.Model.{to, wrote, writing, counting};
+ghost use Rattle.run.specs.Encoding.{flagsAt};
+ghost use Rattle.writer_backend.specs.Output.{countIn};
+ghost use Rattle.writer_backend.specs.Values.{valueOut};
+use char_encoding::char_debug_len;
+use char_encoding::char_display_len;
+use char_encoding::is_char;
+use pwrapper::compute_debug_len_i64;
+use pwrapper::compute_debug_len_u64;
+use pwrapper::compute_display_len_i64;
+use pwrapper::compute_display_len_u64;
+use pwrapper::compute_utf8_debug_len;
+use run::flags_at;
+use str_writer::Written;
+use str_writer::truncate;
+use str_writer::truncate_utf8;
+use str_writer::write_ascii;
+use str_writer::write_ascii_debug;
+use str_writer::write_ascii_range;
+use str_writer::write_ascii_range_debug;
+use str_writer::write_ascii_repeated;
+use str_writer::write_char;
+use str_writer::write_char_debug;
+use str_writer::write_i8_debug;
+use str_writer::write_i8_display;
+use str_writer::write_i16_debug;
+use str_writer::write_i16_display;
+use str_writer::write_i32_debug;
+use str_writer::write_i32_display;
+use str_writer::write_i64_debug;
+use str_writer::write_i64_display;
+use str_writer::write_str;
+use str_writer::write_str_debug;
+use str_writer::write_str_range;
+use str_writer::write_str_range_debug;
+use str_writer::write_u8_debug;
+use str_writer::write_u8_display;
+use str_writer::write_u16_debug;
+use str_writer::write_u16_display;
+use str_writer::write_u32_debug;
+use str_writer::write_u32_display;
+use str_writer::write_u64_debug;
+use str_writer::write_u64_display;
+use utf8::is_utf8;
+use utils::Range;
+
+// Leaves the cursor in its place, and gives the answer's number.
+fn answered(cursor: &mut usize, w: Written) -> u8
+    ensures { λ r. ⌜ ((b : List ℕ) → to (writing (now (cursor .exit))) b r ≡ wrote (outcome w b)) ⌝ }
+{
+    *cursor = w.at;
+    let answer = w.answer;
+    answer.number()
+}
+
+#[no_mangle]
+pub extern "C" fn single_write_str(buf: &mut [u8], cursor: &mut usize, s: &[u8]) -> u8
+    ensures { λ r. ⌜ to (writing (now (cursor .exit))) (now (buf .exit)) r ≡ wrote (write defaultFlags (now (buf .entry)) (now (cursor .entry)) (str display (now (s .entry)) (whole (now (s .entry))))) ⌝ }
+{
+    let w = write_str(buf, *cursor, s);
+    answered(cursor, w)
+}
+
+#[no_mangle]
+pub extern "C" fn single_write_str_range(
+    buf: &mut [u8],
+    cursor: &mut usize,
+    s: &[u8],
+    start: usize,
+    end: usize,
+) -> u8
+    ensures { λ r. ⌜ to (writing (now (cursor .exit))) (now (buf .exit)) r ≡ wrote (write defaultFlags (now (buf .entry)) (now (cursor .entry)) (str display (now (s .entry)) (record { start = start; end = end }))) ⌝ }
+{
+    let range = Range { start, end };
+    let w = write_str_range(buf, *cursor, s, range);
+    answered(cursor, w)
+}
+
+#[no_mangle]
+pub extern "C" fn single_write_str_debug(buf: &mut [u8], cursor: &mut usize, s: &[u8]) -> u8
+    ensures { λ r. ⌜ to (writing (now (cursor .exit))) (now (buf .exit)) r ≡ wrote (write defaultFlags (now (buf .entry)) (now (cursor .entry)) (str debug (now (s .entry)) (whole (now (s .entry))))) ⌝ }
+{
+    let w = write_str_debug(buf, *cursor, s);
+    answered(cursor, w)
+}
+
+#[no_mangle]
+pub extern "C" fn single_write_str_range_debug(
+    buf: &mut [u8],
+    cursor: &mut usize,
+    s: &[u8],
+    start: usize,
+    end: usize,
+) -> u8
+    ensures { λ r. ⌜ to (writing (now (cursor .exit))) (now (buf .exit)) r ≡ wrote (write defaultFlags (now (buf .entry)) (now (cursor .entry)) (str debug (now (s .entry)) (record { start = start; end = end }))) ⌝ }
+{
+    let range = Range { start, end };
+    let w = write_str_range_debug(buf, *cursor, s, range);
+    answered(cursor, w)
+}
+
+#[no_mangle]
+pub extern "C" fn single_write_ascii(buf: &mut [u8], cursor: &mut usize, s: &[u8]) -> u8
+    ensures { λ r. ⌜ to (writing (now (cursor .exit))) (now (buf .exit)) r ≡ wrote (write defaultFlags (now (buf .entry)) (now (cursor .entry)) (ascii display (now (s .entry)) (whole (now (s .entry))))) ⌝ }
+{
+    let w = write_ascii(buf, *cursor, s);
+    answered(cursor, w)
+}
+
+#[no_mangle]
+pub extern "C" fn single_write_ascii_range(
+    buf: &mut [u8],
+    cursor: &mut usize,
+    s: &[u8],
+    start: usize,
+    end: usize,
+) -> u8
+    ensures { λ r. ⌜ to (writing (now (cursor .exit))) (now (buf .exit)) r ≡ wrote (write defaultFlags (now (buf .entry)) (now (cursor .entry)) (ascii display (now (s .entry)) (record { start = start; end = end }))) ⌝ }
+{
+    let range = Range { start, end };
+    let w = write_ascii_range(buf, *cursor, s, range);
+    answered(cursor, w)
+}
+
+#[no_mangle]
+pub extern "C" fn single_write_ascii_debug(buf: &mut [u8], cursor: &mut usize, s: &[u8]) -> u8
+    ensures { λ r. ⌜ to (writing (now (cursor .exit))) (now (buf .exit)) r ≡ wrote (write defaultFlags (now (buf .entry)) (now (cursor .entry)) (ascii debug (now (s .entry)) (whole (now (s .entry))))) ⌝ }
+{
+    let w = write_ascii_debug(buf, *cursor, s);
+    answered(cursor, w)
+}
+
+#[no_mangle]
+pub extern "C" fn single_write_ascii_range_debug(
+    buf: &mut [u8],
+    cursor: &mut usize,
+    s: &[u8],
+    start: usize,
+    end: usize,
+) -> u8
+    ensures { λ r. ⌜ to (writing (now (cursor .exit))) (now (buf .exit)) r ≡ wrote (write defaultFlags (now (buf .entry)) (now (cursor .entry)) (ascii debug (now (s .entry)) (record { start = start; end = end }))) ⌝ }
+{
+    let range = Range { start, end };
+    let w = write_ascii_range_debug(buf, *cursor, s, range);
+    answered(cursor, w)
+}
+
+#[no_mangle]
+pub extern "C" fn single_write_ascii_repeated(
+    buf: &mut [u8],
+    cursor: &mut usize,
+    c: u8,
+    n: usize,
+) -> u8
+    ensures { λ r. ⌜ to (writing (now (cursor .exit))) (now (buf .exit)) r ≡ wrote (write defaultFlags (now (buf .entry)) (now (cursor .entry)) (repeated c n)) ⌝ }
+{
+    let w = write_ascii_repeated(buf, *cursor, c, n);
+    answered(cursor, w)
+}
+
+#[no_mangle]
+pub extern "C" fn single_write_char(buf: &mut [u8], cursor: &mut usize, c: u32) -> u8
+    ensures { λ r. ⌜ to (writing (now (cursor .exit))) (now (buf .exit)) r ≡ wrote (write defaultFlags (now (buf .entry)) (now (cursor .entry)) (char display c)) ⌝ }
+{
+    let w = write_char(buf, *cursor, c);
+    answered(cursor, w)
+}
+
+#[no_mangle]
+pub extern "C" fn single_write_char_debug(buf: &mut [u8], cursor: &mut usize, c: u32) -> u8
+    ensures { λ r. ⌜ to (writing (now (cursor .exit))) (now (buf .exit)) r ≡ wrote (write defaultFlags (now (buf .entry)) (now (cursor .entry)) (char debug c)) ⌝ }
+{
+    let w = write_char_debug(buf, *cursor, c);
+    answered(cursor, w)
+}
+
+#[no_mangle]
+pub extern "C" fn single_write_u8_display(buf: &mut [u8], cursor: &mut usize, x: u8) -> u8
+    ensures { λ r. ⌜ to (writing (now (cursor .exit))) (now (buf .exit)) r ≡ wrote (write defaultFlags (now (buf .entry)) (now (cursor .entry)) (integer display 8 (pos x))) ⌝ }
+{
+    let w = write_u8_display(buf, *cursor, x);
+    answered(cursor, w)
+}
+
+#[no_mangle]
+pub extern "C" fn single_write_u8_debug(buf: &mut [u8], cursor: &mut usize, x: u8, flags: u64) -> u8
+    ensures { λ r. ⌜ to (writing (now (cursor .exit))) (now (buf .exit)) r ≡ wrote (write (flagsAt flags) (now (buf .entry)) (now (cursor .entry)) (integer debug 8 (pos x))) ⌝ }
+{
+    let w = write_u8_debug(buf, *cursor, x, flags_at(flags));
+    answered(cursor, w)
+}
+
+#[no_mangle]
+pub extern "C" fn single_write_u16_display(buf: &mut [u8], cursor: &mut usize, x: u16) -> u8
+    ensures { λ r. ⌜ to (writing (now (cursor .exit))) (now (buf .exit)) r ≡ wrote (write defaultFlags (now (buf .entry)) (now (cursor .entry)) (integer display 16 (pos x))) ⌝ }
+{
+    let w = write_u16_display(buf, *cursor, x);
+    answered(cursor, w)
+}
+
+#[no_mangle]
+pub extern "C" fn single_write_u16_debug(
+    buf: &mut [u8],
+    cursor: &mut usize,
+    x: u16,
+    flags: u64,
+) -> u8
+    ensures { λ r. ⌜ to (writing (now (cursor .exit))) (now (buf .exit)) r ≡ wrote (write (flagsAt flags) (now (buf .entry)) (now (cursor .entry)) (integer debug 16 (pos x))) ⌝ }
+{
+    let w = write_u16_debug(buf, *cursor, x, flags_at(flags));
+    answered(cursor, w)
+}
+
+#[no_mangle]
+pub extern "C" fn single_write_u32_display(buf: &mut [u8], cursor: &mut usize, x: u32) -> u8
+    ensures { λ r. ⌜ to (writing (now (cursor .exit))) (now (buf .exit)) r ≡ wrote (write defaultFlags (now (buf .entry)) (now (cursor .entry)) (integer display 32 (pos x))) ⌝ }
+{
+    let w = write_u32_display(buf, *cursor, x);
+    answered(cursor, w)
+}
+
+#[no_mangle]
+pub extern "C" fn single_write_u32_debug(
+    buf: &mut [u8],
+    cursor: &mut usize,
+    x: u32,
+    flags: u64,
+) -> u8
+    ensures { λ r. ⌜ to (writing (now (cursor .exit))) (now (buf .exit)) r ≡ wrote (write (flagsAt flags) (now (buf .entry)) (now (cursor .entry)) (integer debug 32 (pos x))) ⌝ }
+{
+    let w = write_u32_debug(buf, *cursor, x, flags_at(flags));
+    answered(cursor, w)
+}
+
+#[no_mangle]
+pub extern "C" fn single_write_u64_display(buf: &mut [u8], cursor: &mut usize, x: u64) -> u8
+    ensures { λ r. ⌜ to (writing (now (cursor .exit))) (now (buf .exit)) r ≡ wrote (write defaultFlags (now (buf .entry)) (now (cursor .entry)) (integer display 64 (pos x))) ⌝ }
+{
+    let w = write_u64_display(buf, *cursor, x);
+    answered(cursor, w)
+}
+
+#[no_mangle]
+pub extern "C" fn single_write_u64_debug(
+    buf: &mut [u8],
+    cursor: &mut usize,
+    x: u64,
+    flags: u64,
+) -> u8
+    ensures { λ r. ⌜ to (writing (now (cursor .exit))) (now (buf .exit)) r ≡ wrote (write (flagsAt flags) (now (buf .entry)) (now (cursor .entry)) (integer debug 64 (pos x))) ⌝ }
+{
+    let w = write_u64_debug(buf, *cursor, x, flags_at(flags));
+    answered(cursor, w)
+}
+
+#[no_mangle]
+pub extern "C" fn single_write_i8_display(buf: &mut [u8], cursor: &mut usize, x: i8) -> u8
+    ensures { λ r. ⌜ to (writing (now (cursor .exit))) (now (buf .exit)) r ≡ wrote (write defaultFlags (now (buf .entry)) (now (cursor .entry)) (integer display 8 x)) ⌝ }
+{
+    let w = write_i8_display(buf, *cursor, x);
+    answered(cursor, w)
+}
+
+#[no_mangle]
+pub extern "C" fn single_write_i8_debug(buf: &mut [u8], cursor: &mut usize, x: i8, flags: u64) -> u8
+    ensures { λ r. ⌜ to (writing (now (cursor .exit))) (now (buf .exit)) r ≡ wrote (write (flagsAt flags) (now (buf .entry)) (now (cursor .entry)) (integer debug 8 x)) ⌝ }
+{
+    let w = write_i8_debug(buf, *cursor, x, flags_at(flags));
+    answered(cursor, w)
+}
+
+#[no_mangle]
+pub extern "C" fn single_write_i16_display(buf: &mut [u8], cursor: &mut usize, x: i16) -> u8
+    ensures { λ r. ⌜ to (writing (now (cursor .exit))) (now (buf .exit)) r ≡ wrote (write defaultFlags (now (buf .entry)) (now (cursor .entry)) (integer display 16 x)) ⌝ }
+{
+    let w = write_i16_display(buf, *cursor, x);
+    answered(cursor, w)
+}
+
+#[no_mangle]
+pub extern "C" fn single_write_i16_debug(
+    buf: &mut [u8],
+    cursor: &mut usize,
+    x: i16,
+    flags: u64,
+) -> u8
+    ensures { λ r. ⌜ to (writing (now (cursor .exit))) (now (buf .exit)) r ≡ wrote (write (flagsAt flags) (now (buf .entry)) (now (cursor .entry)) (integer debug 16 x)) ⌝ }
+{
+    let w = write_i16_debug(buf, *cursor, x, flags_at(flags));
+    answered(cursor, w)
+}
+
+#[no_mangle]
+pub extern "C" fn single_write_i32_display(buf: &mut [u8], cursor: &mut usize, x: i32) -> u8
+    ensures { λ r. ⌜ to (writing (now (cursor .exit))) (now (buf .exit)) r ≡ wrote (write defaultFlags (now (buf .entry)) (now (cursor .entry)) (integer display 32 x)) ⌝ }
+{
+    let w = write_i32_display(buf, *cursor, x);
+    answered(cursor, w)
+}
+
+#[no_mangle]
+pub extern "C" fn single_write_i32_debug(
+    buf: &mut [u8],
+    cursor: &mut usize,
+    x: i32,
+    flags: u64,
+) -> u8
+    ensures { λ r. ⌜ to (writing (now (cursor .exit))) (now (buf .exit)) r ≡ wrote (write (flagsAt flags) (now (buf .entry)) (now (cursor .entry)) (integer debug 32 x)) ⌝ }
+{
+    let w = write_i32_debug(buf, *cursor, x, flags_at(flags));
+    answered(cursor, w)
+}
+
+#[no_mangle]
+pub extern "C" fn single_write_i64_display(buf: &mut [u8], cursor: &mut usize, x: i64) -> u8
+    ensures { λ r. ⌜ to (writing (now (cursor .exit))) (now (buf .exit)) r ≡ wrote (write defaultFlags (now (buf .entry)) (now (cursor .entry)) (integer display 64 x)) ⌝ }
+{
+    let w = write_i64_display(buf, *cursor, x);
+    answered(cursor, w)
+}
+
+#[no_mangle]
+pub extern "C" fn single_write_i64_debug(
+    buf: &mut [u8],
+    cursor: &mut usize,
+    x: i64,
+    flags: u64,
+) -> u8
+    ensures { λ r. ⌜ to (writing (now (cursor .exit))) (now (buf .exit)) r ≡ wrote (write (flagsAt flags) (now (buf .entry)) (now (cursor .entry)) (integer debug 64 x)) ⌝ }
+{
+    let w = write_i64_debug(buf, *cursor, x, flags_at(flags));
+    answered(cursor, w)
+}
+
+#[no_mangle]
+pub extern "C" fn single_truncate(buf: &[u8], cursor: &mut usize, length: usize) -> u8
+    ensures { λ r. ⌜ to (writing (now (cursor .exit))) (now (buf .entry)) r ≡ wrote (outcome (truncated (now (buf .entry)) (now (cursor .entry)) length) (now (buf .entry))) ⌝ }
+{
+    let w = truncate(buf, *cursor, length);
+    answered(cursor, w)
+}
+
+#[no_mangle]
+pub extern "C" fn single_truncate_utf8(buf: &[u8], cursor: &mut usize, length: usize) -> u8
+    ensures { λ r. ⌜ to (writing (now (cursor .exit))) (now (buf .entry)) r ≡ wrote (outcome (truncatedUtf8 (now (buf .entry)) (now (cursor .entry)) length) (now (buf .entry))) ⌝ }
+{
+    let w = truncate_utf8(buf, *cursor, length);
+    answered(cursor, w)
+}
+
+// Adds a length to a total, or gives 6 where that would pass 2^64 - 1.
+fn add(total: &mut usize, len: usize) -> u8
+    ensures { λ r. ⌜ to (counting (now (total .exit))) [] r ≡ countIn (record { counting = 1; number = now (total .entry) }) [] len ⌝ }
+{
+    if len <= usize::MAX - *total {
+        *total += len;
+        return 0;
+    }
+    6
+}
+
+#[no_mangle]
+pub extern "C" fn single_count_u64_display(total: &mut usize, x: u64) -> u8
+    ensures { λ r. ⌜ to (counting (now (total .exit))) [] r ≡ valueOut (record { counting = 1; number = now (total .entry) }) [] defaultFlags (integer display 64 (pos x)) ⌝ }
+{
+    add(total, compute_display_len_u64(x))
+}
+
+#[no_mangle]
+pub extern "C" fn single_count_u64_debug(total: &mut usize, x: u64, flags: u64) -> u8
+    ensures { λ r. ⌜ to (counting (now (total .exit))) [] r ≡ valueOut (record { counting = 1; number = now (total .entry) }) [] (flagsAt flags) (integer debug 64 (pos x)) ⌝ }
+{
+    add(total, compute_debug_len_u64(x, flags_at(flags)))
+}
+
+#[no_mangle]
+pub extern "C" fn single_count_i64_display(total: &mut usize, x: i64) -> u8
+    ensures { λ r. ⌜ to (counting (now (total .exit))) [] r ≡ valueOut (record { counting = 1; number = now (total .entry) }) [] defaultFlags (integer display 64 x) ⌝ }
+{
+    add(total, compute_display_len_i64(x))
+}
+
+#[no_mangle]
+pub extern "C" fn single_count_i64_debug(total: &mut usize, x: i64, flags: u64) -> u8
+    ensures { λ r. ⌜ to (counting (now (total .exit))) [] r ≡ valueOut (record { counting = 1; number = now (total .entry) }) [] (flagsAt flags) (integer debug 64 x) ⌝ }
+{
+    add(total, compute_debug_len_i64(x, flags_at(flags)))
+}
+
+#[no_mangle]
+pub extern "C" fn single_count_char(total: &mut usize, c: u32) -> u8
+    ensures { λ r. ⌜ to (counting (now (total .exit))) [] r ≡ valueOut (record { counting = 1; number = now (total .entry) }) [] defaultFlags (char display c) ⌝ }
+{
+    if !is_char(c) {
+        return 5;
+    }
+    let e = char_display_len(c);
+    add(total, e.len)
+}
+
+#[no_mangle]
+pub extern "C" fn single_count_char_debug(total: &mut usize, c: u32) -> u8
+    ensures { λ r. ⌜ to (counting (now (total .exit))) [] r ≡ valueOut (record { counting = 1; number = now (total .entry) }) [] defaultFlags (char debug c) ⌝ }
+{
+    if !is_char(c) {
+        return 5;
+    }
+    let e = char_debug_len(c);
+    add(total, e.len)
+}
+
+#[no_mangle]
+pub extern "C" fn single_count_str(total: &mut usize, s: &[u8]) -> u8
+    ensures { λ r. ⌜ to (counting (now (total .exit))) [] r ≡ valueOut (record { counting = 1; number = now (total .entry) }) [] defaultFlags (str display (now (s .entry)) (whole (now (s .entry)))) ⌝ }
+{
+    if !is_utf8(s) {
+        return 4;
+    }
+    add(total, s.len())
+}
+
+#[no_mangle]
+pub extern "C" fn single_count_str_debug(total: &mut usize, s: &[u8]) -> u8
+    ensures { λ r. ⌜ to (counting (now (total .exit))) [] r ≡ valueOut (record { counting = 1; number = now (total .entry) }) [] defaultFlags (str debug (now (s .entry)) (whole (now (s .entry)))) ⌝ }
+{
+    if !is_utf8(s) {
+        return 4;
+    }
+    let quoted = compute_utf8_debug_len(s);
+    let len = quoted.len;
+    if len == 0 {
+        return 6;
+    }
+    add(total, len)
+}
