@@ -1,5 +1,5 @@
 -- How what has to follow a text changes with one octet more.
-use mathlib.Core.Bool.{false}
+use mathlib.Core.Bool.{true, false}
 use mathlib.Core.Option.{none, some}
 use mathlib.Core.List.{List, [], _∷_}
 use mathlib.Core.Path.{_≡_, refl}
@@ -8,8 +8,8 @@ use native.Mathlib.Numerals.{sub-one}
 use native.Mathlib.Omega.{arith}
 use borrow.Author.Tests.{le-leb}
 use lib.Dec.{eqb, eqb·suc-zero}
-use lib.ListN.{replicate}
-use Rattle.utf8.specs.Utf8.{Octets, tail, follow, continues}
+use lib.ListN.{length, getD, replicate}
+use Rattle.utf8.specs.Utf8.{Octets, tail, follow, continues, wellFormed}
 use Rattle.utf8.specs.Expected.{rangesOf}
 use Rattle.utf8.proofs.Grammar.{First, follows, outside, broken}
 
@@ -48,3 +48,9 @@ pub ends : (n l h : ℕ) → eqb n 0 ≡ continues [] (some (rangesOf n l h))
 unfolding continues
 ends zero l h = refl
 ends (suc n) l h = eqb·suc-zero n
+
+-- text of octets below 80
+pub plain : (s : List ℕ) → ((k : ℕ) → k < length s → getD s k 0 ≤ 0x7F) → wellFormed s ≡ true
+unfolding continues follow
+plain [] h = refl
+plain (a ∷ s) h = rw (le-leb a 0x7F (h 0 (omega arith))) (plain s (λ k p. h (suc k) (omega (arith, p))))

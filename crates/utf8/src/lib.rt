@@ -2,7 +2,8 @@
 ghost use mathlib.Core.Path.{_≡_};
 ghost use mathlib.Core.Option.{some};
 ghost use mathlib.Core.List.{List, _∷_};
-ghost use Prim.Native.Nat.{ℕ};
+ghost use Prim.Native.Nat.{ℕ, _≤_, _<_};
+ghost use lib.ListN.{length, getD};
 ghost use Rattle.utf8.specs.Utf8.{wellFormed, continues, follow};
 ghost use Rattle.utf8.specs.Expected.{ranges};
 
@@ -66,8 +67,24 @@ fn after(e: Expected, a: u8) -> Expected
     Expected(count - 1, 0x80, 0xBF)
 }
 
-// Whether s is well-formed UTF-8.
-pub fn is_utf8(s: &[u8]) -> bool
+// The greatest byte of s, or 0.
+fn greatest(s: &[u8]) -> u8
+    ensures { λ r. ⌜ ((k : ℕ) → k < length (now (s .entry)) → getD (now (s .entry)) k 0 ≤ r) ⌝ }
+{
+    let mut most: u8 = 0;
+    let mut i = 0;
+    while i < s.len() {
+        let b = s[i];
+        if most < b {
+            most = b;
+        }
+        i += 1;
+    }
+    most
+}
+
+// Whether s is well-formed, octet by octet.
+fn by_octets(s: &[u8]) -> bool
     ensures { λ r. ⌜ r ≡ wellFormed (now (s .entry)) ⌝ }
 {
     let mut expected = NOTHING;
@@ -77,4 +94,15 @@ pub fn is_utf8(s: &[u8]) -> bool
         i += 1;
     }
     expected.0 == 0
+}
+
+// Whether s is well-formed UTF-8. The greatest byte is found many bytes at a time, and tells for
+// ASCII text.
+pub fn is_utf8(s: &[u8]) -> bool
+    ensures { λ r. ⌜ r ≡ wellFormed (now (s .entry)) ⌝ }
+{
+    if greatest(s) < 0x80 {
+        return true;
+    }
+    by_octets(s)
 }
