@@ -96,11 +96,28 @@ fn by_octets(s: &[u8]) -> bool
     expected.0 == 0
 }
 
-// Whether s is well-formed UTF-8. The greatest byte is found many bytes at a time, and tells for
-// ASCII text.
+// Whether a short s is well-formed: bytes below 0x80 are passed one by one.
+fn is_short_utf8(s: &[u8]) -> bool
+    ensures { λ r. ⌜ r ≡ wellFormed (now (s .entry)) ⌝ }
+{
+    let mut i = 0;
+    while i < s.len() {
+        if 0x7F < s[i] {
+            return by_octets(s);
+        }
+        i += 1;
+    }
+    true
+}
+
+// Whether s is well-formed UTF-8. In a text that is not short the greatest byte is found many bytes
+// at a time, and tells for ASCII.
 pub fn is_utf8(s: &[u8]) -> bool
     ensures { λ r. ⌜ r ≡ wellFormed (now (s .entry)) ⌝ }
 {
+    if s.len() < 16 {
+        return is_short_utf8(s);
+    }
     if greatest(s) < 0x80 {
         return true;
     }
