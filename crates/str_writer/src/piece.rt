@@ -12,8 +12,33 @@ pub struct Written {
     pub answer: Answer,
 }
 
-// Copies s into buf from at on.
-fn copy_at(buf: &mut [u8], at: usize, s: &[u8])
+// Copies s, of at most four bytes, store by store: most names and separators are as short, and a
+// call of memcpy costs more than they do.
+fn copy_few(buf: &mut [u8], at: usize, s: &[u8])
+    requires { ⌜ (at + length (now s) ≤ length (now buf)) × (length (now s) ≤ 4) ⌝ }
+    ensures { λ _. ⌜ now (buf .exit) ≡ splice (now (buf .entry)) at (now (s .entry)) ⌝ }
+{
+    let n = s.len();
+    if n < 1 {
+        return;
+    }
+    buf[at] = s[0];
+    if n < 2 {
+        return;
+    }
+    buf[at + 1] = s[1];
+    if n < 3 {
+        return;
+    }
+    buf[at + 2] = s[2];
+    if n < 4 {
+        return;
+    }
+    buf[at + 3] = s[3];
+}
+
+// Copies s byte by byte, which the compiler makes one memcpy.
+fn copy_many(buf: &mut [u8], at: usize, s: &[u8])
     requires { ⌜ at + length (now s) ≤ length (now buf) ⌝ }
     ensures { λ _. ⌜ now (buf .exit) ≡ splice (now (buf .entry)) at (now (s .entry)) ⌝ }
 {
@@ -22,6 +47,18 @@ fn copy_at(buf: &mut [u8], at: usize, s: &[u8])
         buf[at + i] = s[i];
         i += 1;
     }
+}
+
+// Copies s into buf from at on.
+fn copy_at(buf: &mut [u8], at: usize, s: &[u8])
+    requires { ⌜ at + length (now s) ≤ length (now buf) ⌝ }
+    ensures { λ _. ⌜ now (buf .exit) ≡ splice (now (buf .entry)) at (now (s .entry)) ⌝ }
+{
+    if s.len() <= 4 {
+        copy_few(buf, at, s);
+        return;
+    }
+    copy_many(buf, at, s);
 }
 
 // Writes s at the cursor, or leaves the buffer as it is.

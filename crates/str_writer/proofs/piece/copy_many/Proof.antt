@@ -4,8 +4,8 @@ use native.Mathlib.Numerals.{add-one}
 use native.Mathlib.Omega.{arith}
 use lib.ListN.{length, getD, set, length-set}
 use lib.Seq.{paste, paste-zero, paste-suc, take-length}
-use Rattle.str_writer.proofs.piece.copy_at.Statement.{statement}
-use Rattle.str_writer.proofs.piece.copy_at.Tie as tie
+use Rattle.str_writer.proofs.piece.copy_many.Statement.{statement}
+use Rattle.str_writer.proofs.piece.copy_many.Tie as tie
 
 abbrev Inv-loop : tie.InvT-loop
 Inv-loop buf₀ at s i₀ buf i = (i ≤ length s) × ((buf ≡ paste buf₀ at s i) × (length buf ≡ length buf₀))
@@ -48,8 +48,8 @@ returns c =
     let e : c .before .loop .i ≡ length (a .s .now) = omega arith in
     c .before .loop .inv .1 .0 ∙ rw (e, take-length)
 
-pub copy-at-spec : {M : Type 1} → statement M
-copy-at-spec =
+pub copy-many-spec : {M : Type 1} → statement M
+copy-many-spec =
     tie.close
     (tie.spec
     Inv-loop
