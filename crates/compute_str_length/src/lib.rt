@@ -5,7 +5,7 @@ ghost use mathlib.Core.Path.{_≡_};
 ghost use mathlib.Core.List.{[]};
 ghost use lib.Dec.{eqb};
 ghost use Rattle.agreement.specs.Model.{start, counting};
-ghost use Rattle.run.specs.Encoding.{decode};
+ghost use Rattle.encoded_call.specs.Encoding.{decode};
 ghost use Rattle.run.specs.Played.{Played, playFrom};
 ghost use Rattle.run.specs.declared.Ran.{Ran};
 ghost use Rattle.compute_str_length.specs.Total.{addTo, CountsThenAdds};

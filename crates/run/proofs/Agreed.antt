@@ -19,7 +19,8 @@ use Rattle.agreement.proofs.Moves.{run-kept}
 use Rattle.agreement.proofs.Agree.{agree}
 use Rattle.writer_backend.specs.declared.pieces.WriterBackend.{WriterBackend}
 use Rattle.writer_backend.specs.Output.{asMode, devOf}
-use Rattle.run.specs.Played.{Played, stepOr, playFrom, CountAgrees, WriteAgrees}
+use Rattle.encoded_call.specs.Encoding.{stepOr}
+use Rattle.run.specs.Played.{Played, playFrom, CountAgrees, WriteAgrees}
 
 guard-cases : (Q : State → Type 0) (n : ℕ) (F : State) (o : Out) → Q F → Q (o .state) → Q (guard n F o .state)
 guard-cases Q zero F o a b = b

@@ -1,3 +1,2 @@
 pub mod Agreed
-pub mod Decoding
 pub mod Playing

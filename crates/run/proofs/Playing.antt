@@ -1,34 +1,19 @@
 -- Five words are one call; a call played before the rest of a run.
-use mathlib.Core.Option.{Option, none}
+use mathlib.Core.Option.{Option}
 use mathlib.Core.Path.{_≡_, refl}
 use mathlib.Core.List.{List, [], _∷_}
-use Prim.Native.Nat.{ℕ, suc, _+_, _-_, _≤_, _<_}
+use Prim.Native.Nat.{ℕ, suc, _+_, _≤_, _<_}
 use native.Mathlib.Omega.{arith}
-use lib.ListN.{length, take, drop, getD}
+use lib.ListN.{length, drop, getD}
 use lib.Seq.{drop-cons}
-use borrow.Author.Tests.{le-leb, lt-leb}
 use Rattle.formatting.specs.declared.flags.FormattingFlags.{FormattingFlags}
 use Rattle.agreement.specs.Call.{Call}
 use Rattle.agreement.specs.Model.{State, Out, hold, start}
 use Rattle.writer_backend.specs.declared.pieces.WriterBackend.{WriterBackend}
 use Rattle.writer_backend.specs.Output.{modeOf}
 use Rattle.formatter.specs.View.{depthOf, view}
-use Rattle.run.specs.Encoding.{opAt, callOf, callAt, decode}
-use Rattle.run.specs.Played.{stepOr, playFrom}
-
--- the text of a call: past the pool, longer than the pool, or within it
-module _ (o i n a b : ℕ) (t : List ℕ) where
-  pub text-past : length t < i → callAt o i n a b t ≡ none
-  unfolding callAt
-  text-past p = rw (lt-leb i (length t) p)
-
-  pub text-long : i ≤ length t → length t - i < n → callAt o i n a b t ≡ none
-  unfolding callAt
-  text-long p q = rw (le-leb i (length t) p, lt-leb n (length t - i) q)
-
-  pub text-within : i ≤ length t → n ≤ length t - i → callAt o i n a b t ≡ callOf (opAt o a b) (take (i + n - i) (drop i t))
-  unfolding callAt
-  text-within p q = let e : i + n - i ≡ n = omega arith in rw (le-leb i (length t) p, le-leb n (length t - i) q, e)
+use Rattle.encoded_call.specs.Encoding.{callAt, decode, stepOr}
+use Rattle.run.specs.Played.{playFrom}
 
 -- five words and more: the call that they are, and the rest
 pub decode-next : (l t : List ℕ) (i : ℕ) → i + 5 ≤ length l

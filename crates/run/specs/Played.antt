@@ -1,5 +1,5 @@
 -- What a list of calls gives when it is played, and demand 3 of a run as data.
-use mathlib.Core.Option.{Option, none, some}
+use mathlib.Core.Option.{Option, some}
 use mathlib.Core.Path.{_≡_}
 use mathlib.Core.Logic.{_↔_}
 use mathlib.Core.List.{List, [], _∷_, _++_, map}
@@ -7,14 +7,10 @@ use Prim.Native.Nat.{ℕ, _+_, _≤_}
 use lib.ListN.{length, take, drop}
 use Rattle.formatting.specs.declared.flags.FormattingFlags.{FormattingFlags}
 use Rattle.agreement.specs.Call.{Call}
-use Rattle.agreement.specs.Model.{Dev, State, Out, step, hold, most}
+use Rattle.agreement.specs.Model.{Dev, State, hold, most}
 use Rattle.agreement.specs.Agreement.{Proper, definedText}
+use Rattle.encoded_call.specs.Encoding.{stepOr}
 use Rattle.run.specs.declared.Ran.{Ran}
-
--- Document 01, 'A nested record': a step; what is no call meets 8 and changes nothing
-abbrev pub stepOr : State → Option Call → Out
-stepOr F (some c) = step F c
-stepOr F none = record { answer = 8; state = F }
 
 -- the first refusal, and the output at the end
 pub record Played : Type 0 where

@@ -1,8 +1,8 @@
 // A line read and replayed.
 use check::same;
+use encoded_call::flags_at;
 use run::Ran;
 use run::count_run;
-use run::flags_at;
 use run::write_run;
 
 // A number or a count of bytes read from a line, and the place after it.

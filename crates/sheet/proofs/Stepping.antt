@@ -15,7 +15,7 @@ use Rattle.writer_backend.specs.Output.{asMode, modeOf}
 use Rattle.formatter.specs.declared.head.Head.{Head}
 use Rattle.formatter.specs.declared.head.HStep.{HStep}
 use Rattle.formatter.specs.View.{view, viewOut}
-use Rattle.run.specs.Played.{stepOr}
+use Rattle.encoded_call.specs.Encoding.{stepOr}
 use Rattle.sheet.specs.declared.Sheet as code
 use Rattle.sheet.specs.Sheet.{Sheet, numberIn, rowText, rowOf, badText}
 use Rattle.sheet.specs.SheetView.{sheetOf, isSome, Step, steppedOf, stepping, Answer, answering}

@@ -16,7 +16,7 @@ use borrow.Author.Tests.{leb-true, eq-eqb, ne-eqb}
 use Rattle.agreement.specs.Call.{Call}
 use Rattle.writer_backend.specs.declared.value.Width.{Width}
 use Rattle.writer_backend.specs.Values.{bitsOf}
-use Rattle.run.proofs.Decoding.{half}
+use Rattle.encoded_call.proofs.Decoding.{half}
 use Rattle.fields.specs.declared.reading.Number.{Number}
 use Rattle.fields.specs.declared.reading.Number.the-variants.{Is, Other}
 use Rattle.fields.specs.Decimal.{numberOf, upTo, optionOf}

@@ -15,9 +15,9 @@ use Rattle.agreement.specs.Call.{Call, opens, place, item, entry, value, finish
 use Rattle.str_writer.specs.Value.{Value, integer, char, display, debug}
 use Rattle.str_writer.specs.Write.{splice}
 use Rattle.str_writer.proofs.Splice.{splice-nil}
-use Rattle.run.specs.declared.Op.{Op}
-use Rattle.run.specs.declared.Op.the-variants.{Nothing}
-use Rattle.run.specs.Encoding.{callOf}
+use Rattle.encoded_call.specs.declared.Op.{Op}
+use Rattle.encoded_call.specs.declared.Op.the-variants.{Nothing}
+use Rattle.encoded_call.specs.Encoding.{callOf}
 use Rattle.fields.specs.Fields.{bytes, same}
 use Rattle.fields.specs.Decimal.{numberOf, upTo}
 use Rattle.fields.specs.declared.hex.HexBytes.{HexBytes}

@@ -6,7 +6,7 @@ use lib.ListN.{length, take}
 use Rattle.agreement.specs.Call.{Call, opens, place, value, sub, endsub, finish, placeName, field}
 use Rattle.str_writer.specs.Value.{Value, integer, char, str, ascii, repeated, whole}
 use Rattle.str_writer.specs.Write.{splice}
-use Rattle.run.specs.Encoding.{callOf}
+use Rattle.encoded_call.specs.Encoding.{callOf}
 use Rattle.writer_backend.specs.Values.{formOf}
 use Rattle.sheet_line.specs.declared.Parsed.{Parsed}
 use Rattle.sheet_line.specs.declared.texts.TextCall.{TextCall}

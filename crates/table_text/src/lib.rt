@@ -5,10 +5,10 @@
 ghost use mathlib.Core.Path.{_≡_};
 ghost use mathlib.Core.List.{[]};
 ghost use Rattle.agreement.specs.Model.{start, counting, writing};
-ghost use Rattle.run.specs.Encoding.{decode, flagsAt};
+ghost use Rattle.encoded_call.specs.Encoding.{decode, flagsAt};
 ghost use Rattle.run.specs.Played.{Played, playFrom, CountAgrees, WriteAgrees};
+use encoded_call::flags_at;
 use run::count_run;
-use run::flags_at;
 use run::write_run;
 
 // Counts a run: its total is left in total.

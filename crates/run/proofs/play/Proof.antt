@@ -6,7 +6,7 @@ use borrow.Author.Needs.{needs}
 use lib.ListN.{length, drop, getD, length-drop}
 use Rattle.agreement.specs.Model.{State}
 use Rattle.formatter.specs.View.{view}
-use Rattle.run.specs.Encoding.{callAt, decode}
+use Rattle.encoded_call.specs.Encoding.{callAt, decode}
 use Rattle.run.specs.Played.{playFrom}
 use Rattle.run.proofs.Playing.{decode-next, decode-end, view-start, play-next}
 use Rattle.run.proofs.play.Statement.{statement}

@@ -4,7 +4,7 @@ use Prim.Native.Nat.{ℕ}
 use native.Mathlib.Omega.{arith}
 use mir.Syntax.{w64}
 use mir.ValLaws.{toZ-ofZ}
-use Rattle.run.specs.Encoding.{flagsAt}
+use Rattle.encoded_call.specs.Encoding.{flagsAt}
 use Rattle.str_writer.specs.Value.{integer, debug, textOf}
 use Rattle.writer_backend.proofs.ValueLaws.{value-counts, integer-fine}
 use borrow.Author.Needs.{needs}

@@ -3,7 +3,7 @@ use mathlib.Core.List.{[]}
 use Prim.Native.Nat.{ℕ}
 use native.Mathlib.Omega.{arith}
 use lib.IntN.{pos}
-use Rattle.run.specs.Encoding.{flagsAt}
+use Rattle.encoded_call.specs.Encoding.{flagsAt}
 use Rattle.str_writer.specs.Value.{integer, debug, textOf}
 use Rattle.writer_backend.proofs.ValueLaws.{value-counts, integer-fine}
 use borrow.Author.Needs.{needs}

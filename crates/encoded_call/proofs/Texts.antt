@@ -1,0 +1,23 @@
+-- The text of a call in the pool.
+use mathlib.Core.Option.{none}
+use mathlib.Core.Path.{_≡_}
+use mathlib.Core.List.{List}
+use Prim.Native.Nat.{ℕ, _+_, _-_, _≤_, _<_}
+use native.Mathlib.Omega.{arith}
+use lib.ListN.{length, take, drop}
+use borrow.Author.Tests.{le-leb, lt-leb}
+use Rattle.encoded_call.specs.Encoding.{opAt, callOf, callAt}
+
+-- the text of a call: past the pool, longer than the pool, or within it
+module _ (o i n a b : ℕ) (t : List ℕ) where
+  pub text-past : length t < i → callAt o i n a b t ≡ none
+  unfolding callAt
+  text-past p = rw (lt-leb i (length t) p)
+
+  pub text-long : i ≤ length t → length t - i < n → callAt o i n a b t ≡ none
+  unfolding callAt
+  text-long p q = rw (le-leb i (length t) p, lt-leb n (length t - i) q)
+
+  pub text-within : i ≤ length t → n ≤ length t - i → callAt o i n a b t ≡ callOf (opAt o a b) (take (i + n - i) (drop i t))
+  unfolding callAt
+  text-within p q = let e : i + n - i ≡ n = omega arith in rw (le-leb i (length t) p, le-leb n (length t - i) q, e)

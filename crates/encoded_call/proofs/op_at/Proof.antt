@@ -1,0 +1,58 @@
+use borrow.Author.Needs.{needs}
+use mathlib.Core.Path.{ap}
+use borrow.Author.Tests.{lt-ltb, le-ltb, ne-eqb}
+use Rattle.encoded_call.specs.declared.Op.the-variants.{Sub}
+use Rattle.encoded_call.specs.Encoding.{opAt}
+use Rattle.encoded_call.proofs.op_at.Statement.{statement}
+use Rattle.encoded_call.proofs.op_at.Tie as tie
+
+returns : tie.Need-returns
+unfolding opAt
+returns c = rw (c .if1 .taken)
+
+returns-2 : tie.Need-returns-2
+unfolding opAt
+returns-2 c = rw (c .if2 .taken)
+
+returns-3 : tie.Need-returns-3
+unfolding opAt
+returns-3 c = rw (c .if3 .taken)
+
+returns-4 : tie.Need-returns-4
+unfolding opAt
+returns-4 c = rw (c .if4 .taken)
+
+returns-5 : tie.Need-returns-5
+unfolding opAt
+returns-5 c = rw (c .if5 .taken)
+
+returns-6 : tie.Need-returns-6
+unfolding opAt
+returns-6 c = rw (c .if6 .taken)
+
+returns-7 : tie.Need-returns-7
+unfolding opAt
+returns-7 c = rw (c .if7 .taken)
+
+returns-8 : tie.Need-returns-8
+unfolding opAt
+returns-8 c = rw (c .if8 .taken)
+
+returns-9 : tie.Need-returns-9
+unfolding opAt
+returns-9 c = rw (c .before .if9 .taken, le-ltb _ _ (c .if10 .taken))
+
+returns-10 : tie.Need-returns-10
+unfolding opAt
+returns-10 c = rw (c .before .before .if9 .taken, lt-ltb _ _ (c .before .if10 .left)) (ap Sub (c .flags-at .ensures))
+
+returns-11 : tie.Need-returns-11
+unfolding opAt
+returns-11 c = rw (c .if11 .taken)
+
+returns-12 : tie.Need-returns-12
+unfolding opAt
+returns-12 c = simp (ne-eqb _ _ (c .before .before .before .before .before .before .before .before .before .before .if1 .left), ne-eqb _ _ (c .before .before .before .before .before .before .before .before .before .if2 .left), ne-eqb _ _ (c .before .before .before .before .before .before .before .before .if3 .left), ne-eqb _ _ (c .before .before .before .before .before .before .before .if4 .left), ne-eqb _ _ (c .before .before .before .before .before .before .if5 .left), ne-eqb _ _ (c .before .before .before .before .before .if6 .left), ne-eqb _ _ (c .before .before .before .before .if7 .left), ne-eqb _ _ (c .before .before .before .if8 .left), ne-eqb _ _ (c .before .before .if9 .left), ne-eqb _ _ (c .before .if11 .left)) (c .value-op .ensures)
+
+pub op-at-spec : {M : Type 1} → statement M
+op-at-spec = tie.close (tie.spec returns returns-2 returns-3 returns-4 returns-5 returns-6 returns-7 returns-8 returns-9 (λ c κs. search needs) returns-10 returns-11 (λ c κs. search needs) returns-12)

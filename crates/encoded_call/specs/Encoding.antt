@@ -1,0 +1,123 @@
+-- A run as data: five words to a call, over a pool of texts. The words are: which call, where its text starts in the pool, how long the text is, and two numbers a and b.
+use mathlib.Core.Bool.{cond}
+use mathlib.Core.Option.{Option, none, some}
+use mathlib.Core.List.{List, [], _∷_}
+use Prim.Native.Nat.{ℕ, zero, suc, _-_, _/_, _%_, _^_}
+use lib.Dec.{leb, ltb, eqb}
+use lib.IntN.{ℤ, pos, negsuc}
+use lib.ListN.{length, take, drop}
+use Rattle.formatting.specs.declared.flags.FormattingFlags.{FormattingFlags}
+use Rattle.formatting.specs.declared.flags.NumberFormatting.{NumberFormatting}
+use Rattle.formatting.specs.declared.flags.NumberFormatting.the-variants.{Decimal, Hexadecimal, Binary}
+use Rattle.formatting.specs.declared.flags.HexFormatting.the-variants.{Upper, Lower}
+use Rattle.agreement.specs.declared.Kind.the-variants.{Struct, Tuple, Set}
+use Rattle.agreement.specs.declared.Kind.the-variants as kind
+use Rattle.agreement.specs.Call.{Call, opens, place, value, sub, endsub, finish}
+use Rattle.agreement.specs.Model.{State, Out, step}
+use Rattle.writer_backend.specs.declared.record.Spot.the-variants.{Field, Item}
+use Rattle.writer_backend.specs.declared.record.Spot.the-variants as spot
+use Rattle.writer_backend.specs.declared.value.Form.{Form}
+use Rattle.writer_backend.specs.declared.value.Form.the-variants.{Display, Debug}
+use Rattle.writer_backend.specs.declared.value.Width.{Width}
+use Rattle.writer_backend.specs.declared.value.Width.the-variants.{W8, W16, W32, W64}
+use Rattle.writer_backend.specs.declared.value.PVariant.the-variants.{Unsigned, Signed, Char, Str, Ascii, Repeated}
+use Rattle.writer_backend.specs.Pieces.{placeOf}
+use Rattle.writer_backend.specs.Values.{bitsOf, valueOf}
+use Rattle.encoded_call.specs.declared.Op.{Op}
+use Rattle.encoded_call.specs.declared.Op.the-variants.{Open, Place, Finish, Sub, EndSub, Value, Nothing}
+
+-- the number format that a number is
+abbrev pub numFmtAt : ℕ → NumberFormatting
+numFmtAt zero = Decimal
+numFmtAt (suc zero) = Hexadecimal
+numFmtAt (suc (suc n)) = Binary
+
+-- the flags that a number below 12 is: by four the number format, by two the case, its last bit alternate or not
+abbrev pub flagsAt : ℕ → FormattingFlags
+flagsAt a = record { «num_fmt» = numFmtAt (a / 4); «hex_fmt» = cond (eqb (a / 2 % 2) 0) Upper Lower; «is_alternate» = eqb (a % 2) 1 }
+
+-- the width that a number is: 8, 16, 32 or 64 bits
+abbrev pub widthAt : ℕ → Width
+widthAt zero = W8
+widthAt (suc zero) = W16
+widthAt (suc (suc zero)) = W32
+widthAt (suc (suc (suc n))) = W64
+
+-- the signed integer whose two's complement at k bits is a
+abbrev pub signedAt : ℕ → ℕ → ℤ
+signedAt k a = cond (ltb a (2 ^ (k - 1))) (pos a) (negsuc (2 ^ k - 1 - a))
+
+-- an integer of a width: a is its bits, and more bits than the width has are no call
+abbrev pub unsignedAt : Form → ℕ → ℕ → Op
+unsignedAt m a b = cond (ltb b 4) (cond (ltb a (2 ^ bitsOf (widthAt b))) (Value (Unsigned m (widthAt b) a)) Nothing) Nothing
+
+-- the same of a signed integer
+abbrev pub integerAt : Form → ℕ → ℕ → Op
+integerAt m a b = cond (ltb b 4) (cond (ltb a (2 ^ bitsOf (widthAt b))) (Value (Signed m (widthAt b) (signedAt (bitsOf (widthAt b)) a))) Nothing) Nothing
+
+-- a character's code; one of more than 32 bits is no call
+abbrev pub charAt : Form → ℕ → Op
+charAt m a = cond (ltb a (2 ^ 32)) (Value (Char m a)) Nothing
+
+-- a byte and how often; more than a byte is no call
+abbrev pub repeatedAt : ℕ → ℕ → Op
+repeatedAt a b = cond (ltb a 256) (Value (Repeated a b)) Nothing
+
+-- the values: strings and ASCII text with the range from a to b, characters, a repeated character, integers
+unfoldable pub valueAt : ℕ → ℕ → ℕ → Op
+valueAt o a b =
+    cond (eqb o 10) (Value (Str Display (record { start = a; end = b })))
+    (cond (eqb o 11) (Value (Str Debug (record { start = a; end = b })))
+    (cond (eqb o 12) (Value (Ascii Display (record { start = a; end = b })))
+    (cond (eqb o 13) (Value (Ascii Debug (record { start = a; end = b })))
+    (cond (eqb o 14) (charAt Display a)
+    (cond (eqb o 15) (charAt Debug a)
+    (cond (eqb o 16) (repeatedAt a b)
+    (cond (eqb o 17) (unsignedAt Display a b)
+    (cond (eqb o 18) (unsignedAt Debug a b)
+    (cond (eqb o 19) (integerAt Display a b)
+    (cond (eqb o 20) (integerAt Debug a b)
+    Nothing))))))))))
+
+-- the call that a number is: openings, fields and entries, finish, sub-formatters, values
+unfoldable pub opAt : ℕ → ℕ → ℕ → Op
+opAt o a b =
+    cond (eqb o 0) (Open Struct)
+    (cond (eqb o 1) (Open Tuple)
+    (cond (eqb o 2) (Open kind.List)
+    (cond (eqb o 3) (Open Set)
+    (cond (eqb o 4) (Place Field)
+    (cond (eqb o 5) (Place Item)
+    (cond (eqb o 6) (Place spot.Entry)
+    (cond (eqb o 7) Finish
+    (cond (eqb o 8) (cond (ltb a 12) (Sub (flagsAt a)) Nothing)
+    (cond (eqb o 9) EndSub
+    (valueAt o a b))))))))))
+
+-- with its text; what is no call is none
+abbrev pub callOf : Op → List ℕ → Option Call
+callOf (Open k) s = some (opens k s)
+callOf (Place p) s = some (place (placeOf p s))
+callOf Finish s = some finish
+callOf (Sub f) s = some (sub f)
+callOf EndSub s = some endsub
+callOf (Value v) s = some (value (valueOf v s))
+callOf Nothing s = none
+
+-- the text is the n bytes of the pool t from i on; where the pool does not have them, it is no call
+unfoldable pub callAt : ℕ → ℕ → ℕ → ℕ → ℕ → List ℕ → Option Call
+callAt o i n a b t = cond (leb i (length t)) (cond (leb n (length t - i)) (callOf (opAt o a b) (take n (drop i t))) none) none
+
+-- the calls of a list of words; words at the end that are no whole call are left out
+unfoldable pub decode : List ℕ → List ℕ → List (Option Call)
+decode [] t = []
+decode (o ∷ []) t = []
+decode (o ∷ i ∷ []) t = []
+decode (o ∷ i ∷ n ∷ []) t = []
+decode (o ∷ i ∷ n ∷ a ∷ []) t = []
+decode (o ∷ i ∷ n ∷ a ∷ b ∷ rest) t = callAt o i n a b t ∷ decode rest t
+
+-- Document 01, 'A nested record': a step; what is no call meets 8 and changes nothing
+abbrev pub stepOr : State → Option Call → Out
+stepOr F (some c) = step F c
+stepOr F none = record { answer = 8; state = F }

@@ -1,0 +1,270 @@
+// A call of a run as five numbers over a pool of texts: which call, where its text starts, how long
+// it is, and two numbers.
+ghost use mathlib.Core.Path.{_≡_};
+ghost use Prim.Native.Nat.{_+_, _^_, _<_};
+ghost use lib.ListN.{getD};
+ghost use Rattle.formatter.specs.View.{view, viewOut};
+ghost use Rattle.writer_backend.specs.Values.{bitsOf};
+ghost use Rattle.encoded_call.specs.Encoding.{valueAt, opAt, callOf, callAt, numFmtAt, flagsAt, widthAt, signedAt, unsignedAt, integerAt, charAt, repeatedAt, stepOr};
+use agreement::Kind;
+use formatter::HStep;
+use formatter::Head;
+use formatter::endsub_at;
+use formatter::finish_at;
+use formatter::open_at;
+use formatter::place_at;
+use formatter::sub_at;
+use formatter::value_at;
+use formatting::FormattingFlags;
+use formatting::HexFormatting;
+use formatting::NumberFormatting;
+use utils::Range;
+use writer_backend::Form;
+use writer_backend::PVariant;
+use writer_backend::Spot;
+use writer_backend::Width;
+
+// What a call's first word asks for.
+pub enum Op {
+    Open(Kind),
+    Place(Spot),
+    Finish,
+    Sub(FormattingFlags),
+    EndSub,
+    Value(PVariant),
+    Nothing,
+}
+
+fn num_fmt_at(n: u64) -> NumberFormatting
+    ensures { λ r. ⌜ r ≡ numFmtAt n ⌝ }
+{
+    if n == 0 {
+        return NumberFormatting::Decimal;
+    }
+    if n == 1 {
+        return NumberFormatting::Hexadecimal;
+    }
+    NumberFormatting::Binary
+}
+
+pub fn flags_at(a: u64) -> FormattingFlags
+    ensures { λ r. ⌜ r ≡ flagsAt a ⌝ }
+{
+    let num_fmt = num_fmt_at(a / 4);
+    let is_alternate = a % 2 == 1;
+    if a / 2 % 2 == 0 {
+        return FormattingFlags {
+            num_fmt,
+            hex_fmt: HexFormatting::Upper,
+            is_alternate,
+        };
+    }
+    FormattingFlags {
+        num_fmt,
+        hex_fmt: HexFormatting::Lower,
+        is_alternate,
+    }
+}
+
+fn width_at(n: u64) -> Width
+    ensures { λ r. ⌜ r ≡ widthAt n ⌝ }
+{
+    if n == 0 {
+        return Width::W8;
+    }
+    if n == 1 {
+        return Width::W16;
+    }
+    if n == 2 {
+        return Width::W32;
+    }
+    Width::W64
+}
+
+// The greatest number of a width.
+pub fn greatest(width: Width) -> u64
+    ensures { λ r. ⌜ r + 1 ≡ 2 ^ bitsOf width ⌝ }
+{
+    match width {
+        Width::W8 => 255,
+        Width::W16 => 65535,
+        Width::W32 => 4294967295,
+        Width::W64 => 18446744073709551615,
+    }
+}
+
+fn unsigned_at(form: Form, a: u64, b: u64) -> Op
+    ensures { λ r. ⌜ r ≡ unsignedAt form a b ⌝ }
+{
+    if 4 <= b {
+        return Op::Nothing;
+    }
+    let width = width_at(b);
+    if greatest(width) < a {
+        return Op::Nothing;
+    }
+    Op::Value(PVariant::Unsigned(form, width, a))
+}
+
+fn integer_at(form: Form, a: u64, b: u64) -> Op
+    ensures { λ r. ⌜ r ≡ integerAt form a b ⌝ }
+{
+    if 4 <= b {
+        return Op::Nothing;
+    }
+    let width = width_at(b);
+    if greatest(width) < a {
+        return Op::Nothing;
+    }
+    Op::Value(PVariant::Signed(form, width, signed_at(width, a)))
+}
+
+// The signed integer whose two's complement at a width is a.
+fn signed_at(width: Width, a: u64) -> i64
+    requires { ⌜ a < 2 ^ bitsOf width ⌝ }
+    ensures { λ r. ⌜ r ≡ signedAt (bitsOf width) a ⌝ }
+{
+    let most = greatest(width);
+    if a <= most / 2 {
+        return a as i64;
+    }
+    let complement = (most - a) as i64;
+    !complement
+}
+
+fn char_at(form: Form, a: u64) -> Op
+    ensures { λ r. ⌜ r ≡ charAt form a ⌝ }
+{
+    if 0xFFFF_FFFF < a {
+        return Op::Nothing;
+    }
+    Op::Value(PVariant::Char(form, a as u32))
+}
+
+fn repeated_at(a: u64, b: u64) -> Op
+    ensures { λ r. ⌜ r ≡ repeatedAt a b ⌝ }
+{
+    if 255 < a {
+        return Op::Nothing;
+    }
+    Op::Value(PVariant::Repeated(a as u8, b as usize))
+}
+
+fn value_op(o: u64, a: u64, b: u64) -> Op
+    ensures { λ r. ⌜ r ≡ valueAt o a b ⌝ }
+{
+    let range = Range {
+        start: a as usize,
+        end: b as usize,
+    };
+    if o == 10 {
+        return Op::Value(PVariant::Str(Form::Display, range));
+    }
+    if o == 11 {
+        return Op::Value(PVariant::Str(Form::Debug, range));
+    }
+    if o == 12 {
+        return Op::Value(PVariant::Ascii(Form::Display, range));
+    }
+    if o == 13 {
+        return Op::Value(PVariant::Ascii(Form::Debug, range));
+    }
+    if o == 14 {
+        return char_at(Form::Display, a);
+    }
+    if o == 15 {
+        return char_at(Form::Debug, a);
+    }
+    if o == 16 {
+        return repeated_at(a, b);
+    }
+    if o == 17 {
+        return unsigned_at(Form::Display, a, b);
+    }
+    if o == 18 {
+        return unsigned_at(Form::Debug, a, b);
+    }
+    if o == 19 {
+        return integer_at(Form::Display, a, b);
+    }
+    if o == 20 {
+        return integer_at(Form::Debug, a, b);
+    }
+    Op::Nothing
+}
+
+fn op_at(o: u64, a: u64, b: u64) -> Op
+    ensures { λ r. ⌜ r ≡ opAt o a b ⌝ }
+{
+    if o == 0 {
+        return Op::Open(Kind::Struct);
+    }
+    if o == 1 {
+        return Op::Open(Kind::Tuple);
+    }
+    if o == 2 {
+        return Op::Open(Kind::List);
+    }
+    if o == 3 {
+        return Op::Open(Kind::Set);
+    }
+    if o == 4 {
+        return Op::Place(Spot::Field);
+    }
+    if o == 5 {
+        return Op::Place(Spot::Item);
+    }
+    if o == 6 {
+        return Op::Place(Spot::Entry);
+    }
+    if o == 7 {
+        return Op::Finish;
+    }
+    if o == 8 {
+        if 12 <= a {
+            return Op::Nothing;
+        }
+        return Op::Sub(flags_at(a));
+    }
+    if o == 9 {
+        return Op::EndSub;
+    }
+    value_op(o, a, b)
+}
+
+// One call. There is one call site for each function: the compiler then makes one loop of them all.
+pub fn call(h: Head, stack: &mut [u32; 64], buf: &mut [u8], op: Op, s: &[u8]) -> HStep
+    ensures { λ r. ⌜ viewOut r (now (stack .exit)) (now (buf .exit)) ≡ stepOr (view h (now (stack .entry)) (now (buf .entry))) (callOf op (now (s .entry))) ⌝ }
+{
+    match op {
+        Op::Open(k) => open_at(h, stack, buf, k, s),
+        Op::Place(p) => place_at(h, stack, buf, p, s),
+        Op::Finish => finish_at(h, stack, buf),
+        Op::Sub(f) => sub_at(h, stack, buf, f),
+        Op::EndSub => endsub_at(h, stack, buf),
+        Op::Value(v) => value_at(h, stack, buf, v, s),
+        Op::Nothing => HStep { answer: 8, head: h },
+    }
+}
+
+// The call that five words are.
+pub fn call_at(
+    h: Head,
+    stack: &mut [u32; 64],
+    buf: &mut [u8],
+    words: [u64; 5],
+    text: &[u8],
+) -> HStep
+    ensures { λ r. ⌜ viewOut r (now (stack .exit)) (now (buf .exit)) ≡ stepOr (view h (now (stack .entry)) (now (buf .entry))) (callAt (getD words 0 0) (getD words 1 0) (getD words 2 0) (getD words 3 0) (getD words 4 0) (now (text .entry))) ⌝ }
+{
+    let at = words[1] as usize;
+    let len = words[2] as usize;
+    if at <= text.len() {
+        if len <= text.len() - at {
+            let end = at + len;
+            let op = op_at(words[0], words[3], words[4]);
+            return call(h, stack, buf, op, &text[at..end]);
+        }
+    }
+    HStep { answer: 8, head: h }
+}
