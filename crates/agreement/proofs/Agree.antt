@@ -11,9 +11,9 @@ use Rattle.formatting.specs.declared.flags.FormattingFlags.{FormattingFlags}
 use Rattle.str_writer.proofs.Splice.{splice-nil}
 use Rattle.agreement.specs.Call.{Place, Call, opens, place, value, sub, endsub, finish}
 use Rattle.agreement.specs.Ledger.{Open, building, within, Ledger, meets, apply, unlessMet, feed, ledger, fresh, placing, leaving, finishing, Permitted}
-use Rattle.agreement.specs.Model.{Mode, counting, writing, Dev, Entry, builder, outer, State, step, run, start, most}
+use Rattle.agreement.specs.Model.{Mode, numberIn, counting, writing, Dev, Entry, builder, outer, State, step, run, start, most}
 use Rattle.agreement.specs.Agreement.{AllDone, Has, here, there, Whole, AllWhole, Proper, definedText, written, Counted, Written, Demand3}
-use Rattle.agreement.proofs.Output.{atOf, capOf, codeOf, Fits, after, Kept, inside}
+use Rattle.agreement.proofs.Output.{capOf, codeOf, Fits, after, Kept, inside}
 use Rattle.agreement.proofs.Moves.{shape, Move, move-shown, run-kept}
 use Rattle.agreement.proofs.Track.{SomeHeld, Track, codes, follows, keeps, Clear, fits, passes}
 
@@ -90,11 +90,11 @@ module _ (m₀ : Mode) (b₀ : List ℕ) where
       ((g .0, r .0), r .1)
 
   passes-run : (cs : List Call) (F : State) (L : Ledger) → Track m₀ b₀ F L → Clear m₀ b₀ F (L .text) → Fits m₀ b₀ (L .text)
-      → AllWhole cs → Permitted L cs → ledger L cs .pile ≡ [] → capOf m₀ b₀ < atOf m₀ + length (ledger L cs .text)
+      → AllWhole cs → Permitted L cs → ledger L cs .pile ≡ [] → capOf m₀ b₀ < numberIn m₀ + length (ledger L cs .text)
       → Has (codeOf m₀) (run F cs .answers)
   passes-run [] F L T G k w p z h = absurd (omega arith)
   passes-run (c ∷ cs) F L T G k w p z h =
-      go (decLe (atOf m₀ + length (feed L c .text)) (capOf m₀ b₀))
+      go (decLe (numberIn m₀ + length (feed L c .text)) (capOf m₀ b₀))
       (λ t g q. passes-run cs (step F c .state) (feed L c) t g q (w .1) (p .1) z h)
     where
       mv : Move (L .text) F c (step F c) (feed L c)
@@ -121,12 +121,12 @@ after-nil : (m : Mode) (b : List ℕ) → record { mode = m; bytes = b } ≡ aft
 after-nil (counting n) b = simp add-zero
 after-nil (writing c) b = rw (splice-nil b c, add-zero)
 
-kept-start : (m : Mode) (b : List ℕ) → atOf m ≤ capOf m b → Kept m b m b
+kept-start : (m : Mode) (b : List ℕ) → numberIn m ≤ capOf m b → Kept m b m b
 kept-start (counting n) b h = tt
 kept-start (writing c) b h = (le-refl c, h, refl, refl)
 
 module _ (f : FormattingFlags) (cs : List Call) (P : Proper f cs) where
-  module _ (m : Mode) (b : List ℕ) (h : atOf m ≤ capOf m b) where
+  module _ (m : Mode) (b : List ℕ) (h : numberIn m ≤ capOf m b) where
     track : Track m b (start m b f) (fresh f)
     track = record { kept = kept-start m b h; shows = refl; margin = refl; margins = tt; held = tt }
 
@@ -136,7 +136,7 @@ module _ (f : FormattingFlags) (cs : List Call) (P : Proper f cs) where
     all-done : Fits m b (definedText f cs) → AllDone (run (start m b f) cs .answers) × (run (start m b f) cs .state .dev ≡ after m b (definedText f cs))
     all-done k = fits-run m b cs (start m b f) (fresh f) track clear (P .whole) (P .permitted) k
 
-    some-refused : capOf m b < atOf m + length (definedText f cs) → Has (codeOf m) (run (start m b f) cs .answers)
+    some-refused : capOf m b < numberIn m + length (definedText f cs) → Has (codeOf m) (run (start m b f) cs .answers)
     some-refused k = passes-run m b cs (start m b f) (fresh f) track clear (omega arith) (P .whole) (P .permitted) (P .closed) k
 
   counted-agrees : length (definedText f cs) ≤ most → Counted f cs

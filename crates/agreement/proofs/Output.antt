@@ -11,13 +11,9 @@ use lib.Seq.{take-append-le, take-take, length-take-le}
 use borrow.Author.Tests.{lt-ltb, le-ltb, le-leb}
 use Rattle.str_writer.specs.Write.{splice, placed}
 use Rattle.str_writer.proofs.Splice.{splice-splice, length-splice}
-use Rattle.agreement.specs.Model.{Mode, counting, writing, Dev, Put, to, most, putIn, put, hold, goOn, tries, stops, beyond}
+use Rattle.agreement.specs.Model.{Mode, numberIn, counting, writing, Dev, Put, to, most, putIn, put, hold, goOn, tries, stops, beyond}
 
--- where a mode stands, how far it may go, and what it answers past that
-abbrev pub atOf : Mode → ℕ
-atOf (counting n) = n
-atOf (writing c) = c
-
+-- how far a mode may go, and what it answers past that
 abbrev pub capOf : Mode → List ℕ → ℕ
 capOf (counting n) b = most
 capOf (writing c) b = length b
@@ -27,7 +23,7 @@ codeOf (counting n) = 6
 codeOf (writing c) = 1
 
 abbrev pub Fits : Mode → List ℕ → List ℕ → Type 0
-Fits m b t = atOf m + length t ≤ capOf m b
+Fits m b t = numberIn m + length t ≤ capOf m b
 
 -- the output once the text t has gone to it
 abbrev pub after : Mode → List ℕ → List ℕ → Dev
@@ -45,15 +41,15 @@ unfolding placed
 in-fits (counting n) b t l h = rw (le-ltb _ _ h)
 in-fits (writing c) b t l h = rw (le-ltb _ _ h)
 
-in-over : (m : Mode) (b t : List ℕ) (l : ℕ → List ℕ) → capOf m b < atOf m + length t → putIn m b t l ≡ to m (leftIn m b l) (codeOf m)
+in-over : (m : Mode) (b t : List ℕ) (l : ℕ → List ℕ) → capOf m b < numberIn m + length t → putIn m b t l ≡ to m (leftIn m b l) (codeOf m)
 unfolding placed
 in-over (counting n) b t l h = rw (lt-ltb _ _ h)
 in-over (writing c) b t l h = rw (lt-ltb _ _ h)
 
 in-cases : (P : Put → Type 0) (m : Mode) (b t : List ℕ) (l : ℕ → List ℕ)
-    → (Fits m b t → P (record { answer = 0; dev = after m b t })) → (capOf m b < atOf m + length t → P (to m (leftIn m b l) (codeOf m)))
+    → (Fits m b t → P (record { answer = 0; dev = after m b t })) → (capOf m b < numberIn m + length t → P (to m (leftIn m b l) (codeOf m)))
     → P (putIn m b t l)
-in-cases P m b t l y n = go (decLe (atOf m + length t) (capOf m b))
+in-cases P m b t l y n = go (decLe (numberIn m + length t) (capOf m b))
   where
     go : Dec (Fits m b t) → P (putIn m b t l)
     go (yes h) = rw (in-fits m b t l h) (y h)
@@ -69,7 +65,7 @@ put-fits (writing c) b t s l h =
     let j : c + length t ≤ length b = omega arith in
     rw (in-fits (writing (c + length t)) (splice b c t) s l (rw length-splice k), splice-splice b c t s j, length-append, add-assoc)
 
-pub put-over : (m : Mode) (b t s : List ℕ) (l : ℕ → List ℕ) → Fits m b t → capOf m b < atOf m + length (t ++ s)
+pub put-over : (m : Mode) (b t s : List ℕ) (l : ℕ → List ℕ) → Fits m b t → capOf m b < numberIn m + length (t ++ s)
     → putIn (after m b t .mode) (after m b t .bytes) s l .answer ≡ codeOf m
 put-over (counting n) b t s l f h = ap (λ (r : Put). r .answer) (in-over (counting (n + length t)) b s l (omega (arith, simp length-append at h)))
 put-over (writing c) b t s l f h =
@@ -95,9 +91,9 @@ module _ (m : Mode) (b : List ℕ) where
       let k : Fits m b (t ++ s ++ joined ss) = rw append-assoc h in
       rw (put-fits m b t s (λ n. []) (fits-left (t ++ s) (joined ss) k), tries-fits (t ++ s) ss k, append-assoc)
 
-  pub tries-over : (t : List ℕ) (ss : List (List ℕ)) → Fits m b t → capOf m b < atOf m + length (t ++ joined ss) → tries (after m b t) ss .answer ≡ codeOf m
+  pub tries-over : (t : List ℕ) (ss : List (List ℕ)) → Fits m b t → capOf m b < numberIn m + length (t ++ joined ss) → tries (after m b t) ss .answer ≡ codeOf m
   tries-over t [] f h = absurd (omega (arith, rw append-nil at h))
-  tries-over t (s ∷ ss) f h = go (decLe (atOf m + length (t ++ s)) (capOf m b)) (λ k. tries-over (t ++ s) ss k (rw append-assoc h))
+  tries-over t (s ∷ ss) f h = go (decLe (numberIn m + length (t ++ s)) (capOf m b)) (λ k. tries-over (t ++ s) ss k (rw append-assoc h))
     where
       go : Dec (Fits m b (t ++ s)) → (Fits m b (t ++ s) → tries (after m b (t ++ s)) ss .answer ≡ codeOf m) → tries (after m b t) (s ∷ ss) .answer ≡ codeOf m
       go (yes k) ih = rw (put-fits m b t s (λ n. []) k) (ih k)

@@ -12,8 +12,8 @@ use Rattle.agreement.specs.declared.Kind.{Kind}
 use Rattle.agreement.specs.declared.Kind.the-variants.{Struct, Tuple, List as ListKind, Set}
 use Rattle.agreement.specs.Call.{Place, field, item, entry, Call, nameOf, spaces, emptyClose, plainClose}
 use Rattle.agreement.specs.Ledger.{Ledger, building, marginOf, separator, label, closing, placing}
-use Rattle.agreement.specs.Model.{Mode, counting, writing, Dev, Put, putValue, tries, stops, Entry, builder, outer, State, Out, namePieces, labelPieces, placePieces, closePieces}
-use Rattle.agreement.proofs.Output.{atOf, capOf, codeOf, after, Fits, joined, put-fits, put-over, tries-fits, tries-over, stops-fits, stops-answer, Coded, hold-code, hold-coded, tries-kept, stops-kept}
+use Rattle.agreement.specs.Model.{Mode, numberIn, counting, writing, Dev, Put, putValue, tries, stops, Entry, builder, outer, State, Out, namePieces, labelPieces, placePieces, closePieces}
+use Rattle.agreement.proofs.Output.{capOf, codeOf, after, Fits, joined, put-fits, put-over, tries-fits, tries-over, stops-fits, stops-answer, Coded, hold-code, hold-coded, tries-kept, stops-kept}
 use Rattle.agreement.proofs.Moves.{KeptSt, value-kept, shape, shown, Move, open-builder, put-place, put-value, enter-sub, leave-sub, close-builder, answer-held}
 
 -- what the pieces of a call join to is what the ledger adds
@@ -136,10 +136,10 @@ module _ (m₀ : Mode) (b₀ : List ℕ) where
     stops-done : Fits m₀ b₀ u → stops d ss ≡ record { answer = 0; dev = after m₀ b₀ u }
     stops-done h = rw (e, ← q) (stops-fits m₀ b₀ t ss (rw q h))
 
-    tries-short : Fits m₀ b₀ t → capOf m₀ b₀ < atOf m₀ + length u → tries d ss .answer ≡ codeOf m₀
+    tries-short : Fits m₀ b₀ t → capOf m₀ b₀ < numberIn m₀ + length u → tries d ss .answer ≡ codeOf m₀
     tries-short k h = rw e (tries-over m₀ b₀ t ss k (rw q h))
 
-    stops-short : Fits m₀ b₀ t → capOf m₀ b₀ < atOf m₀ + length u → stops d ss .answer ≡ codeOf m₀
+    stops-short : Fits m₀ b₀ t → capOf m₀ b₀ < numberIn m₀ + length u → stops d ss .answer ≡ codeOf m₀
     stops-short k h = stops-answer d ss ∙ tries-short k h
 
   -- what the ledger adds fits: the call answers 0, and the text goes to the output
@@ -163,7 +163,7 @@ module _ (m₀ : Mode) (b₀ : List ℕ) where
 
   -- what the ledger adds does not fit: the call answers the code, or a builder holds it
   pub passes : {t : List ℕ} {F : State} {c : Call} {o : Out} {l L : Ledger} → Move t F c o l → Track F L → Clear F t → Fits m₀ b₀ t
-      → capOf m₀ b₀ < atOf m₀ + length (l .text) → (o .answer ≡ codeOf m₀) ⊎ ((o .answer ≡ 0) × SomeHeld m₀ (o .state .stack))
+      → capOf m₀ b₀ < numberIn m₀ + length (l .text) → (o .answer ≡ codeOf m₀) ⊎ ((o .answer ≡ 0) × SomeHeld m₀ (o .state .stack))
   passes {t} (open-builder d f m s k name) T G j h = inr (refl, inl (tries-short (namePieces k name) t (G .dev) (name-joined t k name) j h))
   passes {t} (put-place d f m s k has g x) T G j h =
       inr (refl, inl (rw (G .none .0) (tries-short (placePieces k has (f .«is_alternate») m x) t (G .dev) (place-text t k has f m s (T .margin) x) j h)))

@@ -19,6 +19,11 @@ use Rattle.agreement.specs.Call.{Place, field, item, entry, Call, opens,
 pub data Mode : Type 0 where
   counting writing : ℕ → Mode
 
+-- 'A nested record': the total of a counting run, the cursor of a writing one
+abbrev pub numberIn : Mode → ℕ
+numberIn (counting n) = n
+numberIn (writing p) = p
+
 -- 'A nested record': the output is the mode with its number, and the lent bytes
 pub record Dev : Type 0 where
   pub mode : Mode

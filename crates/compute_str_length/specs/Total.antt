@@ -3,7 +3,7 @@ use mathlib.Core.Bool.{cond}
 use mathlib.Core.Path.{_≡_}
 use Prim.Native.Nat.{ℕ, _+_}
 use lib.Dec.{ltb}
-use Rattle.agreement.specs.Model.{Mode, counting, writing, most}
+use Rattle.agreement.specs.Model.{numberIn, most}
 use Rattle.run.specs.declared.Ran.{Ran}
 use Rattle.run.specs.Played.{Played}
 use Rattle.compute_str_length.specs.declared.CountedThenAdded.{CountedThenAdded}
@@ -11,11 +11,6 @@ use Rattle.compute_str_length.specs.declared.CountedThenAdded.{CountedTh
 -- 'The answer to a call', 6: where the total would pass 2^64 - 1 it stays; else the length is added
 unfoldable pub addTo : ℕ → ℕ → Ran
 addTo total n = cond (ltb most (total + n)) (record { first = 6; number = total }) (record { first = 0; number = total + n })
-
--- 'A nested record': the total of a counting run, or the cursor of a writing one
-abbrev pub numberIn : Mode → ℕ
-numberIn (counting n) = n
-numberIn (writing n) = n
 
 -- 'A nested record': one counter, lent through the calls: r says what a run p answers, and what a length n that is added to its total then answers and leaves
 abbrev pub CountsThenAdds : CountedThenAdded → Played → ℕ → Type 0

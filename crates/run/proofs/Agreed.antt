@@ -12,9 +12,9 @@ use Rattle.formatting.specs.declared.flags.FormattingFlags.{FormattingFlags}
 use Rattle.agreement.specs.declared.Entry.{Entry}
 use Rattle.agreement.specs.declared.Entry.the-variants.{Builder as builder, Outer as outer}
 use Rattle.agreement.specs.Call.{Place, Call, opens, place, value, sub, endsub, finish, nameOf, placeName, suits, valueFault, cutNumber, nameFault, openFault, subFault}
-use Rattle.agreement.specs.Model.{Mode, counting, writing, Dev, to, most, putIn, put, hold, tries, goOn, stops, State, Out, readyTop, namePieces, placePieces, closePieces, guard, opened, placeAt, endsubAt, finishAt, cutIn, stepIn, beyond, step, run, start}
+use Rattle.agreement.specs.Model.{Mode, numberIn, counting, writing, Dev, to, most, putIn, put, hold, tries, goOn, stops, State, Out, readyTop, namePieces, placePieces, closePieces, guard, opened, placeAt, endsubAt, finishAt, cutIn, stepIn, beyond, step, run, start}
 use Rattle.agreement.specs.Agreement.{AllDone}
-use Rattle.agreement.proofs.Output.{atOf, KeptIn}
+use Rattle.agreement.proofs.Output.{KeptIn}
 use Rattle.agreement.proofs.Moves.{run-kept}
 use Rattle.agreement.proofs.Agree.{agree}
 use Rattle.writer_backend.specs.declared.pieces.WriterBackend.{WriterBackend}
@@ -174,7 +174,7 @@ count-agrees f ds e n q cs s P h =
     let F = start (counting 0) [] f in
     let C = agree f cs P h .0 in (
       run-first F ds cs s _ q ∙ done-first (run F cs .answers) (C .done),
-      ap (λ (d : Dev). atOf (d .mode)) (run-dev F ds cs s _ q) ∙ ap atOf (C .total),
+      ap (λ (d : Dev). numberIn (d .mode)) (run-dev F ds cs s _ q) ∙ ap numberIn (C .total),
     )
 
 pub write-agrees : (f : FormattingFlags) (ds : List (Option Call)) (b0 : List ℕ) (p e n : ℕ) (b : List ℕ)
@@ -187,7 +187,7 @@ write-agrees f ds b0 p e n b q cs s P h k =
     let d = run-dev F ds cs s _ q in (
       (λ z. W .exactly .0 (first-done (run F cs .answers) (sym i ∙ z)), λ z. i ∙ done-first (run F cs .answers) (W .exactly .1 z)),
       (
-        λ z. (ap (λ (x : Dev). atOf (x .mode)) d ∙ ap atOf (W .cursor z), ap (λ (x : Dev). x .bytes) d ∙ W .bytes z),
+        λ z. (ap (λ (x : Dev). numberIn (x .mode)) d ∙ ap numberIn (W .cursor z), ap (λ (x : Dev). x .bytes) d ∙ W .bytes z),
         subst (λ (x : Dev). KeptIn (writing p) b0 x) (sym d) (run-kept (writing p) b0 F cs (le-refl p, k, refl, refl)) .3,
       ),
     )

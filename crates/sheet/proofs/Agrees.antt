@@ -12,7 +12,7 @@ use lib.Seq.{take-append-seam, take-at}
 use borrow.Author.Tests.{ltb-false}
 use Rattle.formatting.specs.declared.flags.FormattingFlags.{FormattingFlags}
 use Rattle.agreement.specs.Call.{Call}
-use Rattle.agreement.specs.Model.{State, step, run, most}
+use Rattle.agreement.specs.Model.{numberIn, State, step, run, most}
 use Rattle.agreement.specs.Agreement.{AllDone, Proper, definedText, Counted, Written}
 use Rattle.agreement.proofs.Agree.{agree}
 use Rattle.fields.specs.Fields.{bytes, same, fields}
@@ -23,7 +23,7 @@ use Rattle.sheet_line.specs.declared.begin.Begin.{Begin}
 use Rattle.sheet_line.specs.declared.begin.Begin.the-variants.{Bad, BadCursor, Fresh}
 use Rattle.sheet_line.specs.Begin.{flagFields, sized, sizeFields, beginFields, beginOf}
 use Rattle.sheet_line.specs.Line.{callOfLine}
-use Rattle.sheet.specs.Sheet.{Sheet, freshSheet, numberIn, Stepped, stepped, endLine, endText}
+use Rattle.sheet.specs.Sheet.{Sheet, freshSheet, Stepped, stepped, endLine, endText}
 use Rattle.sheet.specs.Printed.{linesOf, printedFrom, printedAfter, printedLines, printed}
 use Rattle.sheet.specs.SheetAgreement.{rowsFrom, sheetAfter, rowsText, AllZero, sheetRows, SheetOf, Shows, SheetAgrees}
 

@@ -7,7 +7,7 @@ use Prim.Native.Nat.{ℕ, zero, suc}
 use native.Mathlib.Omega.{arith}
 use lib.ListN.{length, take}
 use Rattle.agreement.specs.Call.{Call}
-use Rattle.agreement.specs.Model.{Mode, Out, step}
+use Rattle.agreement.specs.Model.{numberIn, Mode, Out, step}
 use Rattle.str_writer.specs.declared.piece.Written.{Written}
 use Rattle.str_writer.specs.Write.{outcome, put}
 use Rattle.writer_backend.specs.declared.pieces.WriterBackend.{WriterBackend}
@@ -17,7 +17,7 @@ use Rattle.formatter.specs.declared.head.HStep.{HStep}
 use Rattle.formatter.specs.View.{view, viewOut}
 use Rattle.encoded_call.specs.Encoding.{stepOr}
 use Rattle.sheet.specs.declared.Sheet as code
-use Rattle.sheet.specs.Sheet.{Sheet, numberIn, rowText, rowOf, badText}
+use Rattle.sheet.specs.Sheet.{Sheet, rowText, rowOf, badText}
 use Rattle.sheet.specs.SheetView.{sheetOf, isSome, Step, steppedOf, stepping, Answer, answering}
 
 number-of : (t n : ℕ) → numberIn (asMode t n) ≡ n

@@ -6,7 +6,7 @@ use Prim.Native.Nat.{ℕ}
 use lib.ListN.{take}
 use Rattle.formatting.specs.declared.flags.FormattingFlags.{FormattingFlags}
 use Rattle.agreement.specs.Call.{Call}
-use Rattle.agreement.specs.Model.{Mode, counting, writing, State, Out, step, start}
+use Rattle.agreement.specs.Model.{numberIn, counting, writing, State, Out, step, start}
 use Rattle.fields.specs.Fields.{bytes}
 use Rattle.fields.specs.Decimal.{cell}
 use Rattle.fields.specs.Hex.{hexPairs}
@@ -20,11 +20,6 @@ pub record Sheet : Type 0 where
 -- 'A nested record': fresh, flags f, a total of 0, and cursor p over the bytes b
 abbrev pub freshSheet : List ℕ → ℕ → FormattingFlags → Sheet
 freshSheet b p f = record { counted = start (counting 0) [] f; written = start (writing p) b f }
-
--- the total of a counting run, the cursor of a writing one
-abbrev pub numberIn : Mode → ℕ
-numberIn (counting n) = n
-numberIn (writing p) = p
 
 -- 'The call sheet': line number, counting answer, total, writing answer, cursor
 unfoldable pub rowText : Row → List ℕ

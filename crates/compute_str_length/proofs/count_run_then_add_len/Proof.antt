@@ -42,7 +42,7 @@ use denote.Triple.Table.{entered, cited}
 use denote.Triple.Walked.{says, Stays, stay-none, stay-none-slice, walkOf, goes-none, goes-none-slice, Walks, ends-at, walked, walk-meets}
 use denote.Triple.Clauses.{ensured, lasts}
 use denote.Exit.{yes}
-use Rattle.agreement.specs.Model.{start, counting}
+use Rattle.agreement.specs.Model.{numberIn, start, counting}
 use Rattle.formatting.specs.declared.flags.FormattingFlags.{FormattingFlags}
 use Rattle.formatting.proofs.flags.FormattingFlags as F
 use Rattle.formatting.proofs.flags.FormattingFlags.Laws as F′
@@ -51,7 +51,7 @@ use Rattle.encoded_call.specs.Encoding.{decode}
 use Rattle.run.specs.Played.{Played, playFrom}
 use Rattle.compute_str_length.specs.declared.ComputeStrLength.{ComputeStrLength}
 use Rattle.compute_str_length.specs.declared.CountedThenAdded.{CountedThenAdded}
-use Rattle.compute_str_length.specs.Total.{addTo, numberIn}
+use Rattle.compute_str_length.specs.Total.{addTo}
 use Rattle.compute_str_length.proofs.ComputeStrLength as T
 use Rattle.compute_str_length.proofs.ComputeStrLength.Laws as T′
 use Rattle.compute_str_length.proofs.CountedThenAdded as P
