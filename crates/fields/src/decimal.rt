@@ -5,9 +5,9 @@ ghost use Rattle.str_writer.specs.Write.{put as putText};
 ghost use Rattle.fields.specs.Decimal.{optionOf, upTo, readFrom, numberOf, cell};
 use crate::reading::Number;
 use error::Answer;
+use integer_writes::write_decimal;
 use pwrapper::compute_display_len_u64;
 use str_writer::Written;
-use str_writer::write_decimal;
 
 // The number that a field is in decimal, if it is at most `most`.
 pub fn number(s: &[u8], most: u64) -> Number

@@ -6,5 +6,3 @@ pub mod Truncation
 pub mod AsciiText
 pub mod Utf8Text
 pub mod WellFormed
-pub mod Laying
-pub mod IntegerText

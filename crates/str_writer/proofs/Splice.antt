@@ -1,11 +1,11 @@
 -- Laws of a text spliced into a buffer.
 use mathlib.Core.Path.{_≡_, refl, sym, _∙_}
 use mathlib.Core.List.{List, [], _∷_, _++_, append-assoc}
-use Prim.Native.Nat.{ℕ, suc, _+_, _≤_, _<_}
+use Prim.Native.Nat.{ℕ, _+_, _≤_, _<_}
 use native.Mathlib.Numerals.{add-one}
 use native.Mathlib.Omega.{arith}
 use lib.ListN.{length, take, drop, set, getD, length-append, length-drop, length-set}
-use lib.Seq.{take-set-le, set-split, take-at, drop-at, drop-drop, drop-append-add, length-take-le, append-snoc, paste-zero}
+use lib.Seq.{set-split, take-at, drop-drop, drop-append-add, length-take-le, append-snoc, paste-zero}
 use Rattle.str_writer.specs.Write.{splice}
 
 -- the empty text changes nothing
@@ -25,16 +25,6 @@ splice-splice b at s t h =
     let q : drop (at + length s + length t) (splice b at s) ≡ drop (at + (length s + length t)) b =
     (rw l at (drop-append-add (take at b ++ s) (drop (at + length s) b) (length t))) ∙ drop-drop (length t) (at + length s) b ∙ rw a in
     rw (p, q, length-append) (simp append-assoc)
-
--- a byte stored right after where t is to stand is the last byte of a longer text
-pub splice-last : (b : List ℕ) (at : ℕ) (t : List ℕ) (d : ℕ) → at + length t < length b → splice (set b (at + length t) d) at t ≡ splice b at (t ++ (d ∷ []))
-splice-last b at t d h =
-    let k = at + length t in
-    let e : drop k (set b k d) ≡ d ∷ drop (suc k) b =
-    rw set-split (drop-at (take k b) (d ∷ drop (suc k) b) k (length-take-le k b (omega arith))) in
-    let g : at + length (t ++ (d ∷ [])) ≡ suc k = rw length-append (omega arith) in
-    let u : take at (set b k d) ≡ take at b = take-set-le at b k d (omega arith) in
-    rw (u, e, g, ← append-assoc, append-snoc)
 
 -- a splice that fits keeps the length
 pub length-splice : (b : List ℕ) (at : ℕ) (t : List ℕ) → at + length t ≤ length b → length (splice b at t) ≡ length b

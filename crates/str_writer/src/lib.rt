@@ -1,6 +1,6 @@
-// Single writes at a cursor into a lent buffer (fmt/str_writer.rs, fmt/str_writer_mut.rs).
+// Strings and characters written at a cursor into a lent buffer, and truncate (fmt/str_writer.rs,
+// fmt/str_writer_mut.rs).
 mod cursor;
-mod integers;
 mod piece;
 mod quoted;
 mod strings;
@@ -15,25 +15,6 @@ pub use cursor::len;
 pub use cursor::remaining_capacity;
 pub use cursor::truncate;
 pub use cursor::truncate_utf8;
-pub use integers::decimal_len;
-pub use integers::write_debug;
-pub use integers::write_decimal;
-pub use integers::write_i8_debug;
-pub use integers::write_i8_display;
-pub use integers::write_i16_debug;
-pub use integers::write_i16_display;
-pub use integers::write_i32_debug;
-pub use integers::write_i32_display;
-pub use integers::write_i64_debug;
-pub use integers::write_i64_display;
-pub use integers::write_u8_debug;
-pub use integers::write_u8_display;
-pub use integers::write_u16_debug;
-pub use integers::write_u16_display;
-pub use integers::write_u32_debug;
-pub use integers::write_u32_display;
-pub use integers::write_u64_debug;
-pub use integers::write_u64_display;
 pub use piece::Written;
 pub use piece::put;
 pub use quoted::write_ascii_debug;

@@ -20,27 +20,27 @@ pub enum Integer {
 
 fn display(x: Integer, buf: &mut [u8], at: usize) -> Written {
     match x {
-        Integer::U8(x) => str_writer::write_u8_display(buf, at, x),
-        Integer::U16(x) => str_writer::write_u16_display(buf, at, x),
-        Integer::U32(x) => str_writer::write_u32_display(buf, at, x),
-        Integer::U64(x) => str_writer::write_u64_display(buf, at, x),
-        Integer::I8(x) => str_writer::write_i8_display(buf, at, x),
-        Integer::I16(x) => str_writer::write_i16_display(buf, at, x),
-        Integer::I32(x) => str_writer::write_i32_display(buf, at, x),
-        Integer::I64(x) => str_writer::write_i64_display(buf, at, x),
+        Integer::U8(x) => integer_writes::write_u8_display(buf, at, x),
+        Integer::U16(x) => integer_writes::write_u16_display(buf, at, x),
+        Integer::U32(x) => integer_writes::write_u32_display(buf, at, x),
+        Integer::U64(x) => integer_writes::write_u64_display(buf, at, x),
+        Integer::I8(x) => integer_writes::write_i8_display(buf, at, x),
+        Integer::I16(x) => integer_writes::write_i16_display(buf, at, x),
+        Integer::I32(x) => integer_writes::write_i32_display(buf, at, x),
+        Integer::I64(x) => integer_writes::write_i64_display(buf, at, x),
     }
 }
 
 fn debug(x: Integer, flags: FormattingFlags, buf: &mut [u8], at: usize) -> Written {
     match x {
-        Integer::U8(x) => str_writer::write_u8_debug(buf, at, x, flags),
-        Integer::U16(x) => str_writer::write_u16_debug(buf, at, x, flags),
-        Integer::U32(x) => str_writer::write_u32_debug(buf, at, x, flags),
-        Integer::U64(x) => str_writer::write_u64_debug(buf, at, x, flags),
-        Integer::I8(x) => str_writer::write_i8_debug(buf, at, x, flags),
-        Integer::I16(x) => str_writer::write_i16_debug(buf, at, x, flags),
-        Integer::I32(x) => str_writer::write_i32_debug(buf, at, x, flags),
-        Integer::I64(x) => str_writer::write_i64_debug(buf, at, x, flags),
+        Integer::U8(x) => integer_writes::write_u8_debug(buf, at, x, flags),
+        Integer::U16(x) => integer_writes::write_u16_debug(buf, at, x, flags),
+        Integer::U32(x) => integer_writes::write_u32_debug(buf, at, x, flags),
+        Integer::U64(x) => integer_writes::write_u64_debug(buf, at, x, flags),
+        Integer::I8(x) => integer_writes::write_i8_debug(buf, at, x, flags),
+        Integer::I16(x) => integer_writes::write_i16_debug(buf, at, x, flags),
+        Integer::I32(x) => integer_writes::write_i32_debug(buf, at, x, flags),
+        Integer::I64(x) => integer_writes::write_i64_debug(buf, at, x, flags),
     }
 }
 

@@ -2,7 +2,7 @@ use borrow.Author.Needs.{needs}
 use mathlib.Core.Path.{refl, sym, ap, _∙_}
 use lib.ListN.{length}
 use Rattle.str_writer.specs.Value.{integer, display, textOf}
-use Rattle.str_writer.proofs.IntegerText.{display-put}
+use Rattle.integer_writes.proofs.IntegerText.{display-put}
 use Rattle.writer_backend.proofs.ValueLaws.{value-counts, value-writes, integer-fine}
 use Rattle.writer_backend.proofs.value.put_decimal.Statement.{statement}
 use Rattle.writer_backend.proofs.value.put_decimal.Tie as tie

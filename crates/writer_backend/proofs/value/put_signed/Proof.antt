@@ -2,7 +2,7 @@ use borrow.Author.Needs.{needs}
 use mathlib.Core.Path.{sym}
 use mir.Syntax.{w64}
 use mir.ValLaws.{toZ-ofZ}
-use Rattle.str_writer.proofs.IntegerText.{signed-text}
+use Rattle.integer_writes.proofs.IntegerText.{signed-text}
 use Rattle.writer_backend.specs.Values.{bitsOf}
 use Rattle.writer_backend.proofs.value.put_signed.Statement.{statement}
 use Rattle.writer_backend.proofs.value.put_signed.Tie as tie
