@@ -13,7 +13,7 @@ use Rattle.formatting.specs.declared.flags.HexFormatting.the-variants.{Upper, L
 use Rattle.agreement.specs.declared.Kind.the-variants.{Struct, Tuple, Set}
 use Rattle.agreement.specs.declared.Kind.the-variants as kind
 use Rattle.agreement.specs.Call.{Call, opens, place, value, sub, endsub, finish}
-use Rattle.agreement.specs.Model.{State, Out, step}
+use Rattle.agreement.specs.Model.{State, Out, guard, beyond, step}
 use Rattle.writer_backend.specs.declared.record.Spot.the-variants.{Field, Item}
 use Rattle.writer_backend.specs.declared.record.Spot.the-variants as spot
 use Rattle.writer_backend.specs.declared.value.Form.{Form}
@@ -117,7 +117,7 @@ decode (o ∷ i ∷ n ∷ []) t = []
 decode (o ∷ i ∷ n ∷ a ∷ []) t = []
 decode (o ∷ i ∷ n ∷ a ∷ b ∷ rest) t = callAt o i n a b t ∷ decode rest t
 
--- Document 01, 'A nested record': a step; what is no call meets 8 and changes nothing
+-- Document 01, 'The answer to a call', order: 9 before all; what is no call meets 8 and changes nothing
 abbrev pub stepOr : State → Option Call → Out
 stepOr F (some c) = step F c
-stepOr F none = record { answer = 8; state = F }
+stepOr F none = guard (beyond (F .dev .mode) (F .dev .bytes)) F (record { answer = 8; state = F })

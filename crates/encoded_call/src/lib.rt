@@ -1,7 +1,9 @@
 // A call of a run as five numbers over a pool of texts: which call, where its text starts, how long
 // it is, and two numbers.
 ghost use mathlib.Core.Path.{_≡_};
-ghost use Prim.Native.Nat.{_+_, _^_, _<_};
+ghost use mathlib.Core.List.{List};
+ghost use mathlib.Core.Option.{none};
+ghost use Prim.Native.Nat.{ℕ, _+_, _^_, _<_};
 ghost use lib.ListN.{getD};
 ghost use Rattle.formatter.specs.View.{view, viewOut};
 ghost use Rattle.writer_backend.specs.Values.{bitsOf};
@@ -23,6 +25,7 @@ use writer_backend::Form;
 use writer_backend::PVariant;
 use writer_backend::Spot;
 use writer_backend::Width;
+use writer_backend::past;
 
 // What a call's first word asks for.
 pub enum Op {
@@ -232,6 +235,21 @@ fn op_at(o: u64, a: u64, b: u64) -> Op
     value_op(o, a, b)
 }
 
+// What is no call: 8, after 9.
+fn no_call(h: Head, buf: &[u8]) -> HStep
+    ensures { λ r. ⌜ ((s : List ℕ) → viewOut r s (now (buf .entry)) ≡ stepOr (view h s (now (buf .entry))) none) ⌝ }
+{
+    let mode = h.mode;
+    let over = past(mode, buf);
+    if over != 0 {
+        return HStep {
+            answer: over,
+            head: h,
+        };
+    }
+    HStep { answer: 8, head: h }
+}
+
 // One call. There is one call site for each function: the compiler then makes one loop of them all.
 pub fn call(h: Head, stack: &mut [u32; 64], buf: &mut [u8], op: Op, s: &[u8]) -> HStep
     ensures { λ r. ⌜ viewOut r (now (stack .exit)) (now (buf .exit)) ≡ stepOr (view h (now (stack .entry)) (now (buf .entry))) (callOf op (now (s .entry))) ⌝ }
@@ -243,7 +261,7 @@ pub fn call(h: Head, stack: &mut [u32; 64], buf: &mut [u8], op: Op, s: &[u8]) ->
         Op::Sub(f) => sub_at(h, stack, buf, f),
         Op::EndSub => endsub_at(h, stack, buf),
         Op::Value(v) => value_at(h, stack, buf, v, s),
-        Op::Nothing => HStep { answer: 8, head: h },
+        Op::Nothing => no_call(h, buf),
     }
 }
 
@@ -266,5 +284,5 @@ pub fn call_at(
             return call(h, stack, buf, op, &text[at..end]);
         }
     }
-    HStep { answer: 8, head: h }
+    no_call(h, buf)
 }

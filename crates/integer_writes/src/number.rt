@@ -8,7 +8,7 @@ ghost use lib.IntN.{ℤ};
 ghost use lib.ListN.{length};
 ghost use Rattle.formatting.specs.Hex.{hexDigit};
 ghost use Rattle.pwrapper.specs.Digits.{digitText, decDigit};
-ghost use Rattle.pwrapper.specs.Number.{decimal, displayText, twosComplement, prefix, hexText, binText};
+ghost use Rattle.pwrapper.specs.Number.{decimal, displayText, twosComplement, prefix, hexText, binText, debugParts};
 ghost use Rattle.str_writer.specs.Value.{integer, debug};
 ghost use Rattle.str_writer.specs.Write.{outcome, splice, write};
 ghost use Rattle.str_writer.specs.Write.{put as putText};
@@ -190,6 +190,7 @@ pub fn write_debug(
     bits: u64,
     flags: FormattingFlags,
 ) -> Written
+    ensures { λ r. ⌜ outcome r (now (buf .exit)) ≡ putText (now (buf .entry)) at (debugParts (flags .«num_fmt») flags «is_negative» n bits) ⌝ }
     ensures { λ r. ⌜ ((k : ℕ) (z : ℤ) → displayText z ≡ cond «is_negative» (45 ∷ []) [] ++ decimal n → twosComplement k z ≡ bits → outcome r (now (buf .exit)) ≡ write flags (now (buf .entry)) at (integer debug k z)) ⌝ }
 {
     let num_fmt = flags.num_fmt;

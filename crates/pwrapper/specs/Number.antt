@@ -1,5 +1,5 @@
 -- Document 01, 'A number': the texts of an integer.
-use mathlib.Core.Bool.{Bool, true, false}
+use mathlib.Core.Bool.{Bool, true, false, cond}
 use mathlib.Core.List.{List, [], _∷_, _++_}
 use Prim.Native.Nat.{ℕ, suc, _-_, _^_}
 use lib.IntN.{ℤ, pos, negsuc}
@@ -45,3 +45,9 @@ debugIn Binary f k z = binText f (twosComplement k z)
 -- 'A number': the debug form of an integer of k bits
 abbrev pub debugText : FormattingFlags → ℕ → ℤ → List ℕ
 debugText f k z = debugIn (f .«num_fmt») f k z
+
+-- 'A number': the debug form by the flags, of a sign with an absolute value, and of the two's complement
+abbrev pub debugParts : NumberFormatting → FormattingFlags → Bool → ℕ → ℕ → List ℕ
+debugParts Decimal f negative n bits = cond negative (45 ∷ []) [] ++ decimal n
+debugParts Hexadecimal f negative n bits = hexText f bits
+debugParts Binary f negative n bits = binText f bits

@@ -8,6 +8,7 @@ use native.Mathlib.Nat.{le-refl}
 use native.Mathlib.Omega.{arith}
 use lib.Dec.{ltb}
 use lib.ListN.{length}
+use borrow.Author.Tests.{le-leb}
 use Rattle.formatting.specs.declared.flags.FormattingFlags.{FormattingFlags}
 use Rattle.agreement.specs.declared.Entry.{Entry}
 use Rattle.agreement.specs.declared.Entry.the-variants.{Builder as builder, Outer as outer}
@@ -81,7 +82,7 @@ module _ (P : Mode → List ℕ → Type 0) where
 
     step-keep : (F : State) (c : Option Call) → In F → In (stepOr F c .state)
     step-keep F (some c) h = guard-cases In (beyond (F .dev .mode) (F .dev .bytes)) F (stepIn F c) h (in-keep F c h)
-    step-keep F none h = h
+    step-keep F none h = guard-cases In (beyond (F .dev .mode) (F .dev .bytes)) F _ h h
 
     play-keep : (a : ℕ) (F : State) (ds : List (Option Call)) → In F → On (playFrom a F ds .dev)
     play-keep a F [] h = h
@@ -128,10 +129,10 @@ counted n f ds e w b q =
     ap (ended e) (counting-dev (w .counting) (w .number) b (subst (λ (r : Played). On Counts (r .dev)) (sym q) k)) ∙ q
 
 pub written : (f : FormattingFlags) (ds : List (Option Call)) (b0 : List ℕ) (p : ℕ) (e : ℕ) (w : WriterBackend) (b : List ℕ)
-    → _≡_ {A = Played} (record { first = e; dev = devOf w b }) (playFrom 0 (start (writing p) b0 f) ds)
-    → _≡_ {A = Played} (record { first = e; dev = record { mode = writing (w .number); bytes = b } }) (playFrom 0 (start (writing p) b0 f) ds)
+    → _≡_ {A = Played} (record { first = e; dev = devOf w b }) (playFrom (beyond (writing p) b0) (start (writing p) b0 f) ds)
+    → _≡_ {A = Played} (record { first = e; dev = record { mode = writing (w .number); bytes = b } }) (playFrom (beyond (writing p) b0) (start (writing p) b0 f) ds)
 written f ds b0 p e w b q =
-    let k = play-keep Writes writes-keeps 0 (start (writing p) b0 f) ds tt in
+    let k = play-keep Writes writes-keeps (beyond (writing p) b0) (start (writing p) b0 f) ds tt in
     ap (ended e) (writing-dev (w .counting) (w .number) b (subst (λ (r : Played). On Writes (r .dev)) (sym q) k)) ∙ q
 
 -- the first answer that is not 0, held along the answers; it is 0 exactly if all are
@@ -178,10 +179,11 @@ count-agrees f ds e n q cs s P h =
     )
 
 pub write-agrees : (f : FormattingFlags) (ds : List (Option Call)) (b0 : List ℕ) (p e n : ℕ) (b : List ℕ)
-    → _≡_ {A = Played} (record { first = e; dev = record { mode = writing n; bytes = b } }) (playFrom 0 (start (writing p) b0 f) ds)
+    → _≡_ {A = Played} (record { first = e; dev = record { mode = writing n; bytes = b } }) (playFrom (beyond (writing p) b0) (start (writing p) b0 f) ds)
     → WriteAgrees f ds b0 p (record { first = e; number = n }) b
-write-agrees f ds b0 p e n b q cs s P h k =
+write-agrees f ds b0 p e n b r cs s P h k =
     let F = start (writing p) b0 f in
+    let q = rw (le-leb p (length b0) k) at r in
     let W = agree f cs P h .1 b0 p k in
     let i = run-first F ds cs s _ q in
     let d = run-dev F ds cs s _ q in (

@@ -2,7 +2,7 @@
 // of open entries is a local array that is lent to the calls.
 ghost use mathlib.Core.Path.{_≡_};
 ghost use mathlib.Core.List.{[]};
-ghost use Rattle.agreement.specs.Model.{start, counting, writing};
+ghost use Rattle.agreement.specs.Model.{start, counting, writing, beyond};
 ghost use Rattle.writer_backend.specs.Output.{devOf, modeOf};
 ghost use Rattle.encoded_call.specs.Encoding.{decode};
 ghost use Rattle.run.specs.Played.{playFrom, CountAgrees, WriteAgrees};
@@ -11,6 +11,7 @@ use formatter::Head;
 use formatting::FormattingFlags;
 use writer_backend::WriterBackend;
 use writer_backend::first;
+use writer_backend::past;
 
 // The end of a run: its first refusal by document 01's number, 0 for none, and its total or cursor.
 pub struct Ran {
@@ -24,7 +25,7 @@ struct End {
     mode: WriterBackend,
 }
 
-// Plays the calls from the beginning.
+// Plays the calls from the beginning: 9 where the cursor is past the buffer, also of no calls.
 fn play(
     mode: WriterBackend,
     flags: FormattingFlags,
@@ -32,7 +33,7 @@ fn play(
     calls: &[u64],
     text: &[u8],
 ) -> End
-    ensures { λ r. ⌜ record { first = r .first; dev = devOf (r .mode) (now (buf .exit)) } ≡ playFrom 0 (start (modeOf mode) (now (buf .entry)) flags) (decode (now (calls .entry)) (now (text .entry))) ⌝ }
+    ensures { λ r. ⌜ record { first = r .first; dev = devOf (r .mode) (now (buf .exit)) } ≡ playFrom (beyond (modeOf mode) (now (buf .entry))) (start (modeOf mode) (now (buf .entry)) flags) (decode (now (calls .entry)) (now (text .entry))) ⌝ }
 {
     let mut stack = [0u32; 64];
     let mut head = Head {
@@ -41,7 +42,8 @@ fn play(
         margin: 0,
         depth: 0,
     };
-    let mut refusal: u8 = 0;
+    let over = past(mode, buf);
+    let mut refusal: u8 = over;
     let mut i = 0;
     while 5 <= calls.len() - i {
         let words = [
@@ -98,7 +100,7 @@ pub fn write_run(
     calls: &[u64],
     text: &[u8],
 ) -> Ran
-    ensures { λ r. ⌜ record { first = r .first; dev = record { mode = writing (r .number); bytes = now (buf .exit) } } ≡ playFrom 0 (start (writing at) (now (buf .entry)) flags) (decode (now (calls .entry)) (now (text .entry))) ⌝ }
+    ensures { λ r. ⌜ record { first = r .first; dev = record { mode = writing (r .number); bytes = now (buf .exit) } } ≡ playFrom (beyond (writing at) (now (buf .entry))) (start (writing at) (now (buf .entry)) flags) (decode (now (calls .entry)) (now (text .entry))) ⌝ }
     ensures { λ r. ⌜ WriteAgrees flags (decode (now (calls .entry)) (now (text .entry))) (now (buf .entry)) at r (now (buf .exit)) ⌝ }
 {
     let mode = WriterBackend {

@@ -4,7 +4,7 @@
 // plus 2 for lower digits, plus 1 for alternate.
 ghost use mathlib.Core.Path.{_≡_};
 ghost use mathlib.Core.List.{[]};
-ghost use Rattle.agreement.specs.Model.{start, counting, writing};
+ghost use Rattle.agreement.specs.Model.{start, counting, writing, beyond};
 ghost use Rattle.encoded_call.specs.Encoding.{decode, flagsAt};
 ghost use Rattle.run.specs.Played.{Played, playFrom, CountAgrees, WriteAgrees};
 use encoded_call::flags_at;
@@ -22,7 +22,7 @@ pub extern "C" fn table_text_count(flags: u64, calls: &[u64], text: &[u8], total
     r.first
 }
 
-// Writes a run from a cursor: the cursor at the end is left in cursor.
+// Writes a run from a cursor: the cursor at the end is left in cursor. 9 where it is past the buffer.
 #[no_mangle]
 pub extern "C" fn table_text_write(
     flags: u64,
@@ -31,7 +31,7 @@ pub extern "C" fn table_text_write(
     calls: &[u64],
     text: &[u8],
 ) -> u8
-    ensures { λ r. ⌜ _≡_ {A = Played} (record { first = r; dev = record { mode = writing (now (cursor .exit)); bytes = now (buf .exit) } }) (playFrom 0 (start (writing (now (cursor .entry))) (now (buf .entry)) (flagsAt flags)) (decode (now (calls .entry)) (now (text .entry)))) ⌝ }
+    ensures { λ r. ⌜ _≡_ {A = Played} (record { first = r; dev = record { mode = writing (now (cursor .exit)); bytes = now (buf .exit) } }) (playFrom (beyond (writing (now (cursor .entry))) (now (buf .entry))) (start (writing (now (cursor .entry))) (now (buf .entry)) (flagsAt flags)) (decode (now (calls .entry)) (now (text .entry)))) ⌝ }
     ensures { λ r. ⌜ WriteAgrees (flagsAt flags) (decode (now (calls .entry)) (now (text .entry))) (now (buf .entry)) (now (cursor .entry)) (record { first = r; number = now (cursor .exit) }) (now (buf .exit)) ⌝ }
 {
     let r = write_run(flags_at(flags), buf, *cursor, calls, text);

@@ -21,7 +21,7 @@ returns-6 : tie.Need-returns-6
 returns-6 c = rw (c .before .before .before .before .before .before .op4 .given .1) (c .before .before .value-at .ensures)
 
 returns-7 : tie.Need-returns-7
-returns-7 c = rw (c .enum-told3 .given .1)
+returns-7 c = rw (c .before .before .enum-told3 .given .1) (c .no-call .ensures _)
 
 pub call-spec : {M : Type 1} → statement M
-call-spec = tie.close (tie.spec (λ c. search needs) (λ c κs. search needs) (λ c. search needs) (λ c κs. search needs) (λ c. search needs) (λ c κs. search needs) (λ c. search needs) (λ c κs. search needs) (λ c. search needs) (λ c κs. search needs) (λ c. search needs) (λ c κs. search needs) (λ c. search needs) (λ c. search needs) returns (λ c. search needs) returns-2 (λ c. search needs) returns-3 (λ c. search needs) returns-4 (λ c. search needs) returns-5 (λ c. search needs) returns-6 returns-7)
+call-spec = tie.close (tie.spec (λ c. search needs) (λ c κs. search needs) (λ c. search needs) (λ c κs. search needs) (λ c. search needs) (λ c κs. search needs) (λ c. search needs) (λ c κs. search needs) (λ c. search needs) (λ c κs. search needs) (λ c. search needs) (λ c κs. search needs) (λ c. search needs) (λ c κs. search needs) (λ c. search needs) returns (λ c. search needs) returns-2 (λ c. search needs) returns-3 (λ c. search needs) returns-4 (λ c. search needs) returns-5 (λ c. search needs) returns-6 (λ c. search needs) returns-7)

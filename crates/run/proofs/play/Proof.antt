@@ -1,10 +1,10 @@
--- The loop's invariant: the rest of the run from here gives the whole run's end. The measure is how many words are left.
 use mathlib.Core.Path.{_≡_, refl, ap, _∙_}
 use Prim.Native.Nat.{_+_, _-_, _≤_}
 use native.Mathlib.Omega.{arith}
-use borrow.Author.Needs.{needs}
 use lib.ListN.{length, drop, getD, length-drop}
-use Rattle.agreement.specs.Model.{State}
+use borrow.Author.Needs.{needs}
+use Rattle.agreement.specs.Model.{State, beyond}
+use Rattle.writer_backend.specs.Output.{modeOf}
 use Rattle.formatter.specs.View.{view}
 use Rattle.encoded_call.specs.Encoding.{callAt, decode}
 use Rattle.run.specs.Played.{playFrom}
@@ -13,18 +13,18 @@ use Rattle.run.proofs.play.Statement.{statement}
 use Rattle.run.proofs.play.Tie as tie
 
 abbrev Inv-loop : tie.InvT-loop
-Inv-loop buf₀ calls text stack₀ head₀ refusal₀ i₀ buf stack head refusal i =
+Inv-loop buf₀ calls text stack₀ head₀ over refusal₀ i₀ buf stack head refusal i =
     (i ≤ length calls) × (length buf ≡ length buf₀)
-    × (playFrom refusal (view head stack buf) (decode (drop i calls) text) ≡ playFrom 0 (view head₀ stack₀ buf₀) (decode calls text))
+    × (playFrom refusal (view head stack buf) (decode (drop i calls) text) ≡ playFrom refusal₀ (view head₀ stack₀ buf₀) (decode calls text))
 
 abbrev μ-loop : tie.MeasureT-loop
-μ-loop buf₀ calls text stack₀ head₀ refusal₀ i₀ buf stack head refusal i = length calls - i
+μ-loop buf₀ calls text stack₀ head₀ over refusal₀ i₀ buf stack head refusal i = length calls - i
 
 loop-holds : tie.Need-loop-holds Inv-loop μ-loop
 loop-holds c = (omega arith, refl, refl)
 
 add-i : tie.Need-add-i Inv-loop μ-loop
-add-i c = omega (arith, c .before .before .before .before .before .before .before .before .before .before .before .before .loop-test .taken, c .before .before .before .before .before .before .before .before .before .before .before .before .before .loop .inv .0, c .before .before .before .before .before .before .before .before .before .before .before .before .before .before .before .before .before .good .1 .1 .1 .0)
+add-i c = omega (arith, c .before .before .before .before .before .before .before .before .before .before .before .before .loop-test .taken, c .before .before .before .before .before .before .before .before .before .before .before .before .before .loop .inv .0, c .before .before .before .before .before .before .before .before .before .before .before .before .before .before .before .before .before .before .before .good .1 .1 .1 .0)
 
 loop-less : tie.Need-loop-less Inv-loop μ-loop
 loop-less c = omega (arith, c .before .before .before .before .before .before .before .before .before .before .before .before .loop-test .taken)
@@ -32,7 +32,7 @@ loop-less c = omega (arith, c .before .before .before .before .before .before .b
 loop-again : tie.Need-loop-again Inv-loop μ-loop
 loop-again c =
     let h = c .before .before .before .before .before .before .before .before .before .before .before .before .before .loop in
-    let a = c .before .before .before .before .before .before .before .before .before .before .before .before .before .before .before .before .before .args in
+    let a = c .before .before .before .before .before .before .before .before .before .before .before .before .before .before .before .before .before .before .before .args in
     let l = c .before .before .before .before .before .before .before .before .before .before .before .before .loop-test .taken in
     let r = c .before .before .before .before .call-at in
     let w = a .calls .now in
@@ -47,9 +47,9 @@ same-length c = c .before .before .loop .inv .1
 returns : tie.Need-returns Inv-loop μ-loop
 returns c =
     let h = c .before .before .loop in
-    let a = c .before .before .before .before .before .before .args in
-    let e = rw (decode-end (drop (h .i) (a .calls .now)) (a .text .now) (simp length-drop (omega arith))) at (h .inv .2) in
-    e ∙ ap (λ (F : State). playFrom 0 F (decode (a .calls .now) (a .text .now))) (view-start (a .mode) (a .flags) _ (a .buf .now))
+    let a = c .before .before .before .before .before .before .before .before .args in
+    let e = rw (decode-end (drop (h .i) (a .calls .now)) (a .text .now) (simp length-drop (omega arith)), c .before .before .before .past .ensures) at (h .inv .2) in
+    e ∙ ap (λ (F : State). playFrom (beyond (modeOf (a .mode)) (a .buf .now)) F (decode (a .calls .now) (a .text .now))) (view-start (a .mode) (a .flags) _ (a .buf .now))
 
 pub play-spec : {M : Type 1} → statement M
-play-spec = tie.close (tie.spec Inv-loop μ-loop loop-holds (λ c. search needs) (λ c. search needs) (λ c. search needs) (λ c. search needs) (λ c. search needs) (λ c. search needs) (λ c. search needs) (λ c. search needs) (λ c. search needs) (λ c. search needs) (λ c. search needs) (λ c. search needs) (λ c. search needs) (λ c. search needs) (λ c. search needs) (λ c κs. search needs) (λ c κs. search needs) add-i loop-less loop-again same-length returns)
+play-spec = tie.close (tie.spec Inv-loop μ-loop (λ c κs. search needs) loop-holds (λ c. search needs) (λ c. search needs) (λ c. search needs) (λ c. search needs) (λ c. search needs) (λ c. search needs) (λ c. search needs) (λ c. search needs) (λ c. search needs) (λ c. search needs) (λ c. search needs) (λ c. search needs) (λ c. search needs) (λ c. search needs) (λ c. search needs) (λ c κs. search needs) (λ c κs. search needs) add-i loop-less loop-again same-length returns)

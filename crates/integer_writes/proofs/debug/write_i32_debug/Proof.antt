@@ -10,7 +10,7 @@ returns : tie.Need-returns
 returns c =
     let s = c .before .before .before .before .before .before .before in
     let n = c .before .before .before .before .before .unsigned-abs-i32 in
-    c .before .before .write-debug .ensures 32 (s .args .x) (signed-text w32 (s .args .x) (s .fits .x) (n .result) (n .ensures)) (sym (rw (toZ-ofZ w32 (s .args .x) (s .fits .x)) at (c .before .before .before .before .bits-i32 .ensures)))
+    c .before .before .write-debug .ensures .1 32 (s .args .x) (signed-text w32 (s .args .x) (s .fits .x) (n .result) (n .ensures)) (sym (rw (toZ-ofZ w32 (s .args .x) (s .fits .x)) at (c .before .before .before .before .bits-i32 .ensures)))
 
 pub write-i32-debug-spec : {M : Type 1} → statement M
 write-i32-debug-spec = tie.close (tie.spec (λ c κs. search needs) (λ c κs. search needs) (λ c. search needs) (λ c. search needs) (λ c κs. search needs) (λ c. search needs) returns)

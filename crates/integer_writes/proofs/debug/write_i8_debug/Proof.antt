@@ -10,7 +10,7 @@ returns : tie.Need-returns
 returns c =
     let s = c .before .before .before .before .before .before .before in
     let n = c .before .before .before .before .before .unsigned-abs-i8 in
-    c .before .before .write-debug .ensures 8 (s .args .x) (signed-text w8 (s .args .x) (s .fits .x) (n .result) (n .ensures)) (sym (rw (toZ-ofZ w8 (s .args .x) (s .fits .x)) at (c .before .before .before .before .bits-i8 .ensures)))
+    c .before .before .write-debug .ensures .1 8 (s .args .x) (signed-text w8 (s .args .x) (s .fits .x) (n .result) (n .ensures)) (sym (rw (toZ-ofZ w8 (s .args .x) (s .fits .x)) at (c .before .before .before .before .bits-i8 .ensures)))
 
 pub write-i8-debug-spec : {M : Type 1} → statement M
 write-i8-debug-spec = tie.close (tie.spec (λ c κs. search needs) (λ c κs. search needs) (λ c. search needs) (λ c. search needs) (λ c κs. search needs) (λ c. search needs) returns)
