@@ -22,8 +22,9 @@ uint8_t table_text_count(uint64_t flags, const uint64_t *calls, size_t calls_len
                          const uint8_t *text, size_t text_len, size_t *total);
 
 /* Writes a run into buf from place *cursor on: the place after it is left in *cursor. A run that
- * table_text_count answers with 0 and a total, that finishes every builder and cuts strings only
- * between characters, is written whole exactly if that many bytes are free. */
+ * table_text_count answers with 0 and a total, that finishes every builder, closes every
+ * sub-formatter and cuts strings only between characters, is written whole exactly if that many
+ * bytes are free. */
 uint8_t table_text_write(uint64_t flags, uint8_t *buf, size_t buf_len, size_t *cursor,
                          const uint64_t *calls, size_t calls_len,
                          const uint8_t *text, size_t text_len);

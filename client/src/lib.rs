@@ -1,10 +1,11 @@
 //! A sender's side of `libtable_text.a`: a [`Run`] records calls that are named after const_format's
 //! `Formatter`, and is then counted or written whole.
 //!
-//! For every run that finishes each builder and cuts strings only between characters, with at most
-//! 64 entries open and a text below 2^64 bytes, it is proved of the library that `count` gives
-//! exactly the length of the text, and that `write` succeeds exactly when that many bytes are free,
-//! and then leaves exactly that text. The code of this file is not proved.
+//! For every run whose calls are not refused for their input or their place (answers 2, 4, 5, 7 and
+//! 8), that closes all it opens, cuts strings only between characters and has a text below 2^64
+//! bytes, it is proved of the library that `count` gives exactly the length of the text, and that
+//! `write` succeeds exactly when that many bytes are free, and then leaves exactly that text. The
+//! code of this file is not proved.
 
 use std::fmt;
 use std::ops::{Deref, DerefMut, Range};

@@ -15,7 +15,7 @@ use Rattle.agreement.specs.Call.{Call, field, entry, opens, place, value
 use Rattle.agreement.specs.Model.{writing}
 use Rattle.agreement.specs.Agreement.{definedText, counted, written, Proper}
 
--- the sheet of 'A nested record': struct `P` with field `x` holding u8 7
+-- 'The call sheet': the input that the paper shows: struct `P` with field `x` holding u8 7
 abbrev pub sheet : List Call
 sheet = opens Struct (0x50 ∷ []) ∷ place (field (0x78 ∷ [])) ∷ value (integer debug 8 (pos 7)) ∷ finish ∷ []
 

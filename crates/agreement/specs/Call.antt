@@ -108,7 +108,7 @@ abbrev pub faultNumber : Option Answer → ℕ
 faultNumber none = 0
 faultNumber (some a) = numberOf a
 
--- 'The answer to a call', 2, 4 and 5, and 3: what a value's input meets, and a cut
+-- 'The answer to a call', 2, 4 and 5: what a value's input meets
 abbrev pub valueFault : Value → ℕ
 valueFault v = faultNumber (inputFault v)
 

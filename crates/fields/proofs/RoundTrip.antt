@@ -17,7 +17,7 @@ use Rattle.formatting.specs.Hex.{hexDigit}
 use Rattle.pwrapper.specs.Digits.{decDigit}
 use Rattle.pwrapper.specs.Number.{decimal}
 use Rattle.pwrapper.proofs.Digits.{by-digits, text-low, text-step, text-pos, text-one}
-use Rattle.fields.specs.Decimal.{isDigit, readFrom, isShortest, numberOf}
+use Rattle.fields.specs.Decimal.{isDigit, readFrom, isShortest, decimalOf}
 use Rattle.fields.specs.Hex.{isHexDigit, hexValue, isHex, hexBytes, hexPairs}
 use Rattle.fields.specs.RoundTrip.{allBytes, NumberRoundTrip, HexRoundTrip}
 use Rattle.fields.proofs.Numbers.{number-zero, number-digits}
@@ -55,7 +55,7 @@ grows (b ∷ s) a n h e =
     let d : decimal (a * 10 + (b - 48)) ≡ decimal a ++ (b ∷ []) = decimal-more a (b - 48) h (omega arith) ∙ rw v in
     sym (append-snoc (decimal a) b s) ∙ (rw d at (grows s (a * 10 + (b - 48)) n (omega arith) (p .2)))
 
-read-shortest : (s : List ℕ) (n : ℕ) → numberOf s ≡ some n → s ≡ decimal n
+read-shortest : (s : List ℕ) (n : ℕ) → decimalOf s ≡ some n → s ≡ decimal n
 unfolding readFrom isShortest
 read-shortest [] n e = absurd (Option·none-ne-some n e)
 read-shortest (b ∷ []) n e =

@@ -23,25 +23,25 @@ numFmtOf zero = Decimal
 numFmtOf (suc zero) = Hexadecimal
 numFmtOf (suc (suc n)) = Binary
 
--- the case of its hexadecimal digits
+-- Document 01, 'Rust forms that cannot come along': the case of its hexadecimal digits
 abbrev pub hexFmtOf : ℕ → HexFormatting
 hexFmtOf zero = Upper
 hexFmtOf (suc n) = Lower
 
--- alternate or not; whether a builder has a field
+-- Document 01, 'Rust forms that cannot come along': alternate or not; whether a builder has a field
 abbrev pub isOne : ℕ → Bool
 isOne zero = false
 isOne (suc n) = true
 
--- even: a builder, by its kind, whether it has a field, the refusal that it holds
+-- Document 01, 'Rust forms that cannot come along': even: a builder, by its kind, whether it has a field, the refusal that it holds
 abbrev pub builderOf : ℕ → Entry
 builderOf n = builder (kindOf (n / 2 % 4)) (isOne (n / 8 % 2)) (n / 16 % 256)
 
--- odd: a sub-formatter, by the flags and the margin outside it
+-- Document 01, 'Rust forms that cannot come along': odd: a sub-formatter, by the flags and the margin outside it
 abbrev pub outerOf : ℕ → Entry
 outerOf n = outer (record { «num_fmt» = numFmtOf (n / 2 % 4); «hex_fmt» = hexFmtOf (n / 8 % 2); «is_alternate» = isOne (n / 16 % 2) }) (n / 32 % 65536)
 
--- by the lowest bit
+-- Document 01, 'Rust forms that cannot come along': by the lowest bit
 abbrev pub byTag : ℕ → ℕ → Entry
 byTag zero n = builderOf n
 byTag (suc t) n = outerOf n

@@ -24,6 +24,6 @@ depthOf d = cond (leb d 64) d 64
 abbrev pub view : Head → List ℕ → List ℕ → State
 view h s b = record { dev = devOf (h .mode) b; flags = h .flags; margin = h .margin; stack = stackOf s (depthOf (h .depth)) }
 
--- what a call answers, with the stack and the bytes as they then are
+-- Document 01, 'Rust forms that cannot come along': what a call answers, with the stack and the bytes as they then are
 abbrev pub viewOut : HStep → List ℕ → List ℕ → Out
 viewOut r s b = record { answer = r .answer; state = view (r .head) s b }

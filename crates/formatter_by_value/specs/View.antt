@@ -14,7 +14,7 @@ use Rattle.formatter_by_value.specs.declared.FStep.{FStep}
 abbrev pub viewF : Formatter → List ℕ → State
 viewF f b = view (f .head) (f .stack) b
 
--- what a call on a formatter by value answers
+-- Document 01, 'Rust forms that cannot come along': what a call on a formatter by value answers
 abbrev pub viewFOut : FStep → List ℕ → Out
 viewFOut r b = record { answer = r .answer; state = viewF (r .fmt) b }
 

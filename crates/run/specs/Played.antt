@@ -12,7 +12,7 @@ use Rattle.agreement.specs.Agreement.{Proper, definedText}
 use Rattle.encoded_call.specs.Encoding.{stepOr}
 use Rattle.run.specs.declared.Ran.{Ran}
 
--- the first refusal, and the output at the end
+-- Document 01, 'A nested record': the first refusal, and the output at the end
 pub record Played : Type 0 where
   pub first : ℕ
   pub dev : Dev

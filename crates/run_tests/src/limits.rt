@@ -1,5 +1,5 @@
-// The limits: 64 entries open and a 65th, a total at the top of its range and past it, and codes
-// that are no characters.
+// The limits: 64 entries open and a 65th, a total at the top of its range and past it, codes that
+// are no characters, and cursors past the buffer.
 use crate::show::ended;
 use crate::show::set_word;
 use formatting::FormattingFlags;
@@ -109,9 +109,29 @@ fn characters() {
     counted(b"more than 32 bits: ", &wide);
 }
 
+fn written(name: &[u8], at: usize, calls: &[u64]) {
+    let mut space = [b'.'; 4];
+    text(name);
+    ended(write_run(FormattingFlags::new(), &mut space, at, calls, b""));
+    text(b"\n");
+}
+
+// A cursor past four bytes is 9, before all else, also of no calls.
+fn cursors() {
+    let none = [0u64; 0];
+    let wrong = [7u64, 0, 0, 0, 0];
+    let no_call = [99u64, 0, 0, 0, 0];
+    written(b"cursor at the end, no calls: ", 4, &none);
+    written(b"cursor past the end, no calls: ", 5, &none);
+    written(b"cursor past the end, a finish: ", 5, &wrong);
+    written(b"cursor past the end, no call: ", 5, &no_call);
+    written(b"cursor at the end, no call: ", 4, &no_call);
+}
+
 pub fn all() {
     deep();
     open_64();
     totals();
     characters();
+    cursors();
 }

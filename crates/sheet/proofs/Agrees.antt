@@ -16,7 +16,7 @@ use Rattle.agreement.specs.Model.{numberIn, State, step, run, most}
 use Rattle.agreement.specs.Agreement.{AllDone, Proper, definedText, Counted, Written}
 use Rattle.agreement.proofs.Agree.{agree}
 use Rattle.fields.specs.Fields.{bytes, same, fields}
-use Rattle.fields.specs.Decimal.{numberOf, upTo}
+use Rattle.fields.specs.Decimal.{decimalOf, upTo}
 use Rattle.sheet_line.specs.declared.begin.Flags.{Flags}
 use Rattle.sheet_line.specs.declared.begin.Flags.the-variants.{Are, NoFlags}
 use Rattle.sheet_line.specs.declared.begin.Begin.{Begin}
@@ -48,7 +48,7 @@ module _ (n p : ℕ) (f : FormattingFlags) where
   size-within : (fs : List (List ℕ)) → sizeFields fs ≡ Fresh n p f → p ≤ n
   size-within [] e = bad-begin e
   size-within (a ∷ []) e = bad-begin e
-  size-within (a ∷ b ∷ fs) e = sized-within (upTo 4096 (numberOf a)) (upTo (2 ^ 64 - 1) (numberOf b)) (flagFields fs) e
+  size-within (a ∷ b ∷ fs) e = sized-within (upTo 4096 (decimalOf a)) (upTo (2 ^ 64 - 1) (decimalOf b)) (flagFields fs) e
 
   word-within : (t : Bool) (fs : List (List ℕ)) → cond t (sizeFields fs) Bad ≡ Fresh n p f → p ≤ n
   word-within true fs e = size-within fs e

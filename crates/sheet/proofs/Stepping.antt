@@ -18,7 +18,7 @@ use Rattle.formatter.specs.View.{view, viewOut}
 use Rattle.encoded_call.specs.Encoding.{stepOr}
 use Rattle.sheet.specs.declared.Sheet as code
 use Rattle.sheet.specs.Sheet.{Sheet, rowText, rowOf, badText}
-use Rattle.sheet.specs.SheetView.{sheetOf, isSome, Step, steppedOf, stepping, Answer, answering}
+use Rattle.sheet.specs.SheetView.{sheetOf, isSome, Step, steppedOf, stepping, LineAnswer, answering}
 
 number-of : (t n : ℕ) → numberIn (asMode t n) ≡ n
 number-of zero n = refl
@@ -52,8 +52,8 @@ a-call none h = let z : _≡_ {A = ℕ} 0 1 = cc in absurd (omega arith)
 a-call (some c) h = (c, refl)
 
 module _ (k : ℕ) (S : Sheet) (o : Option Call) (out : List ℕ) (at : ℕ) (w : Written) (out' : List ℕ) where
-  pub answer-bad : o ≡ none → outcome w out' ≡ put out at (badText k) → _≡_ {A = Answer} (record { isCall = false; sheet = S; printed = outcome w out' }) (answering k S o out at)
+  pub answer-bad : o ≡ none → outcome w out' ≡ put out at (badText k) → _≡_ {A = LineAnswer} (record { isCall = false; sheet = S; printed = outcome w out' }) (answering k S o out at)
   answer-bad e p = rw (p, e)
 
-  pub answer-call : (c : Call) (t : Step) → o ≡ some c → t ≡ stepping k S c → outcome w out' ≡ put out at (rowText (t .row)) → _≡_ {A = Answer} (record { isCall = true; sheet = t .sheet; printed = outcome w out' }) (answering k S o out at)
+  pub answer-call : (c : Call) (t : Step) → o ≡ some c → t ≡ stepping k S c → outcome w out' ≡ put out at (rowText (t .row)) → _≡_ {A = LineAnswer} (record { isCall = true; sheet = t .sheet; printed = outcome w out' }) (answering k S o out at)
   answer-call c t e q p = rw (p, q, e)

@@ -12,7 +12,7 @@ use Rattle.fields.specs.Decimal.{cell}
 use Rattle.fields.specs.Hex.{hexPairs}
 use Rattle.sheet.specs.declared.print.Row.{Row}
 
--- the two runs of a sheet
+-- 'The call sheet': the two runs of a sheet
 pub record Sheet : Type 0 where
   pub counted : State
   pub written : State
@@ -25,7 +25,7 @@ freshSheet b p f = record { counted = start (counting 0) [] f; written = start (
 unfoldable pub rowText : Row → List ℕ
 rowText r = cell (r .line) 44 ++ cell (r .«counting_answer») 44 ++ cell (r .total) 44 ++ cell (r .«writing_answer») 44 ++ cell (r .cursor) 10
 
--- the row of what both runs answer
+-- 'The call sheet': the row of what both runs answer
 abbrev pub rowOf : ℕ → Out → Out → Row
 rowOf k c w = record { line = k; «counting_answer» = c .answer; total = numberIn (c .state .dev .mode); «writing_answer» = w .answer; cursor = numberIn (w .state .dev .mode) }
 
@@ -45,7 +45,7 @@ endLine total cursor b = bytes "end," ++ cell total 44 ++ cell cursor 44 ++ hexP
 abbrev pub endText : Sheet → List ℕ
 endText S = endLine (numberIn (S .counted .dev .mode)) (numberIn (S .written .dev .mode)) (take (numberIn (S .written .dev .mode)) (S .written .dev .bytes))
 
--- whether a line is a call, both runs after it, and what it prints
+-- 'The call sheet': whether a line is a call, both runs after it, and what it prints
 pub record Stepped : Type 0 where
   pub isCall : Bool
   pub sheet : Sheet

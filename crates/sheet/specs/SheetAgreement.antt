@@ -16,7 +16,7 @@ use Rattle.sheet.specs.declared.print.Row.{Row}
 use Rattle.sheet.specs.Sheet.{Sheet, rowText, rowOf, freshSheet, endLine, endText}
 use Rattle.sheet.specs.Printed.{linesOf, printed}
 
--- the rows of a list of calls, from line k on
+-- demand 3 on a sheet: the rows of a list of calls, from line k on
 abbrev pub rowsFrom : ℕ → Sheet → List Call → List Row
 rowsFrom k S [] = []
 rowsFrom k S (c ∷ cs) =
@@ -24,26 +24,26 @@ rowsFrom k S (c ∷ cs) =
     let b = step (S .written) c in
     rowOf k a b ∷ rowsFrom (suc k) (record { counted = a .state; written = b .state }) cs
 
--- both runs after a list of calls
+-- demand 3 on a sheet: both runs after a list of calls
 abbrev pub sheetAfter : Sheet → List Call → Sheet
 sheetAfter S [] = S
 sheetAfter S (c ∷ cs) = sheetAfter (record { counted = step (S .counted) c .state; written = step (S .written) c .state }) cs
 
--- rows printed
+-- demand 3 on a sheet: rows printed
 abbrev pub rowsText : List Row → List ℕ
 rowsText [] = []
 rowsText (r ∷ rs) = rowText r ++ rowsText rs
 
--- every answer on the rows is 0
+-- demand 3 on a sheet: every answer on the rows is 0
 abbrev pub AllZero : List Row → Type 0
 AllZero [] = Unit {0}
 AllZero (r ∷ rs) = (r .«counting_answer» ≡ 0) × (r .«writing_answer» ≡ 0) × AllZero rs
 
--- the rows of a sheet of n bytes and cursor p, from line 2 on
+-- demand 3 on a sheet: the rows of a sheet of n bytes and cursor p, from line 2 on
 abbrev pub sheetRows : ℕ → ℕ → FormattingFlags → List Call → List Row
 sheetRows n p f cs = rowsFrom 2 (freshSheet (replicate n 0) p f) cs
 
--- the input is a sheet without `bad`: its first line begins a run, and each later line is a call
+-- demand 3 on a sheet: the input is a sheet without `bad`: its first line begins a run, and each later line is a call
 pub record SheetOf (input : List ℕ) (n p : ℕ) (f : FormattingFlags) (cs : List Call) : Type 0 where
   pub first : List ℕ
   pub later : List (List ℕ)
@@ -51,14 +51,14 @@ pub record SheetOf (input : List ℕ) (n p : ℕ) (f : FormattingFlags) (cs : Li
   pub begins : beginOf first ≡ Fresh n p f
   pub calls : map callOfLine later ≡ map some cs
 
--- it prints a row for each call, then the last line; every answer is 0 exactly when the text fits; and then the last line shows the length of the defined text, the cursor past it, and after the first p bytes the defined text
+-- demand 3 on a sheet: it prints a row for each call, then the last line; every answer is 0 exactly when the text fits; and then the last line shows the length of the defined text, the cursor past it, and after the first p bytes the defined text
 pub record Shows (input : List ℕ) (n p : ℕ) (f : FormattingFlags) (cs : List Call) : Type 0 where
   pub rows : printed input ≡ rowsText (sheetRows n p f cs) ++ endText (sheetAfter (freshSheet (replicate n 0) p f) cs)
   pub exactly : AllZero (sheetRows n p f cs) ↔ (p + length (definedText f cs) ≤ n)
   pub last : p + length (definedText f cs) ≤ n
       → endText (sheetAfter (freshSheet (replicate n 0) p f) cs) ≡ endLine (length (definedText f cs)) (p + length (definedText f cs)) (replicate p 0 ++ definedText f cs)
 
--- for every sheet without `bad` whose run is proper
+-- demand 3 on a sheet: for every sheet without `bad` whose run is proper
 abbrev pub SheetAgrees : Type 0
 SheetAgrees =
     (input : List ℕ) (n p : ℕ) (f : FormattingFlags) (cs : List Call) → SheetOf input n p f cs → Proper f cs →

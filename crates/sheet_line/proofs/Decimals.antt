@@ -19,7 +19,7 @@ use Rattle.writer_backend.specs.Values.{bitsOf}
 use Rattle.encoded_call.proofs.Decoding.{half}
 use Rattle.fields.specs.declared.reading.Number.{Number}
 use Rattle.fields.specs.declared.reading.Number.the-variants.{Is, Other}
-use Rattle.fields.specs.Decimal.{numberOf, upTo, optionOf}
+use Rattle.fields.specs.Decimal.{decimalOf, upTo, optionOf}
 use Rattle.sheet_line.specs.Line.{negative, signedOf}
 
 -- what is read is at most the limit
@@ -32,15 +32,15 @@ up-le m (some k) n e = go (leb k m) refl e
     go false q e = let z : _≡_ {A = ℕ} 0 1 = cc in omega arith
 
 -- what the reader answers up to the limit g is what is read up to m
-module _ (g m : ℕ) (s : List ℕ) (r : Number) (e : optionOf r ≡ upTo g (numberOf s)) (q : g ≡ m) where
-  pub is-read : (n : ℕ) → r ≡ Is n → some n ≡ upTo m (numberOf s)
+module _ (g m : ℕ) (s : List ℕ) (r : Number) (e : optionOf r ≡ upTo g (decimalOf s)) (q : g ≡ m) where
+  pub is-read : (n : ℕ) → r ≡ Is n → some n ≡ upTo m (decimalOf s)
   is-read n p = rw (p, q) at e
 
-  pub other-read : r ≡ Other → none ≡ upTo m (numberOf s)
+  pub other-read : r ≡ Other → none ≡ upTo m (decimalOf s)
   other-read p = rw (p, q) at e
 
-pub in-limit : (g : ℕ) (s : List ℕ) (r : Number) (n : ℕ) → optionOf r ≡ upTo g (numberOf s) → r ≡ Is n → n ≤ g
-in-limit g s r n e p = up-le g (numberOf s) n (is-read g g s r e refl n p)
+pub in-limit : (g : ℕ) (s : List ℕ) (r : Number) (n : ℕ) → optionOf r ≡ upTo g (decimalOf s) → r ≡ Is n → n ≤ g
+in-limit g s r n e p = up-le g (decimalOf s) n (is-read g g s r e refl n p)
 
 -- half of the greatest number of a type
 module _ (w : Width) (g : ℕ) (e : g + 1 ≡ 2 ^ bitsOf w) where
@@ -59,11 +59,11 @@ pub signed-empty : (k : ℕ) (s : List ℕ) → length s ≡ 0 → none ≡ sign
 signed-empty k [] h = refl
 signed-empty k (b ∷ s) h = absurd (omega arith)
 
-pub signed-minus : (k : ℕ) (s : List ℕ) → (length s ≡ 0 → ⊥) → getD s 0 0 ≡ 45 → signedOf k s ≡ negative (upTo (2 ^ (k - 1)) (numberOf (take (length s - 1) (drop 1 s))))
+pub signed-minus : (k : ℕ) (s : List ℕ) → (length s ≡ 0 → ⊥) → getD s 0 0 ≡ 45 → signedOf k s ≡ negative (upTo (2 ^ (k - 1)) (decimalOf (take (length s - 1) (drop 1 s))))
 signed-minus k [] h e = absurd (h refl)
-signed-minus k (b ∷ s) h e = rw (eq-eqb b 45 e) (ap (λ (t : List ℕ). negative (upTo (2 ^ (k - 1)) (numberOf t))) (sym (rest-all 1 (b ∷ s))))
+signed-minus k (b ∷ s) h e = rw (eq-eqb b 45 e) (ap (λ (t : List ℕ). negative (upTo (2 ^ (k - 1)) (decimalOf t))) (sym (rest-all 1 (b ∷ s))))
 
-pub signed-plain : (k : ℕ) (s : List ℕ) → (length s ≡ 0 → ⊥) → (getD s 0 0 ≡ 45 → ⊥) → signedOf k s ≡ Option·map pos (upTo (2 ^ (k - 1) - 1) (numberOf s))
+pub signed-plain : (k : ℕ) (s : List ℕ) → (length s ≡ 0 → ⊥) → (getD s 0 0 ≡ 45 → ⊥) → signedOf k s ≡ Option·map pos (upTo (2 ^ (k - 1) - 1) (decimalOf s))
 signed-plain k [] h e = absurd (h refl)
 signed-plain k (b ∷ s) h e = rw (ne-eqb b 45 e)
 

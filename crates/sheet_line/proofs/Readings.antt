@@ -19,7 +19,7 @@ use Rattle.encoded_call.specs.declared.Op.{Op}
 use Rattle.encoded_call.specs.declared.Op.the-variants.{Nothing}
 use Rattle.encoded_call.specs.Encoding.{callOf}
 use Rattle.fields.specs.Fields.{bytes, same}
-use Rattle.fields.specs.Decimal.{numberOf, upTo}
+use Rattle.fields.specs.Decimal.{decimalOf, upTo}
 use Rattle.fields.specs.declared.hex.HexBytes.{HexBytes}
 use Rattle.fields.specs.declared.hex.HexBytes.the-variants.{Are, NotHex}
 use Rattle.fields.specs.Hex.{isHex, hexBytes, fromHex, Read, readHex}
@@ -101,4 +101,4 @@ pub num-text : (t : IntType) (s : List ℕ) → textIn (numCall t s) ≡ []
 num-text t s = map-text (integer debug (typeBits t)) (λ z. refl) (valueIn t s)
 
 pub char-text : (s : List ℕ) → textIn (charCall s) ≡ []
-char-text s = map-text (char display) (λ z. refl) (upTo (2 ^ 32 - 1) (numberOf s))
+char-text s = map-text (char display) (λ z. refl) (upTo (2 ^ 32 - 1) (decimalOf s))

@@ -8,7 +8,7 @@ use native.Mathlib.Omega.{arith}
 use lib.Dec.{eqb}
 use lib.ListN.{length, take, drop}
 use Rattle.fields.specs.Fields.{bytes, same, indexOf, longer, fields}
-use Rattle.fields.specs.Decimal.{numberOf, upTo}
+use Rattle.fields.specs.Decimal.{decimalOf, upTo}
 use Rattle.fields.proofs.Splitting.{index-le, fields-one, fields-more}
 use Rattle.sheet_line.specs.declared.begin.Flags.the-variants.{NoFlags}
 use Rattle.sheet_line.specs.declared.begin.Begin.the-variants.{Bad}
@@ -45,7 +45,7 @@ sized-none (some a) none = refl
 sized-none (some a) (some b) = refl
 
 pub no-flags : (n p : List ℕ) → Bad ≡ sizeFields (n ∷ p ∷ [])
-no-flags n p = sized-none (upTo 4096 (numberOf n)) (upTo (2 ^ 64 - 1) (numberOf p))
+no-flags n p = sized-none (upTo 4096 (decimalOf n)) (upTo (2 ^ 64 - 1) (decimalOf p))
 
 neither : (t : Bool) → Bad ≡ cond t Bad Bad
 neither true = refl

@@ -9,7 +9,7 @@ use Rattle.formatting.specs.declared.flags.FormattingFlags.{FormattingFlags}
 use Rattle.formatting.specs.declared.flags.NumberFormatting.the-variants.{Decimal, Hexadecimal, Binary}
 use Rattle.formatting.specs.declared.flags.HexFormatting.the-variants.{Upper, Lower}
 use Rattle.fields.specs.Fields.{bytes, same, fields}
-use Rattle.fields.specs.Decimal.{numberOf, upTo}
+use Rattle.fields.specs.Decimal.{decimalOf, upTo}
 use Rattle.sheet_line.specs.declared.begin.Format.{Format}
 use Rattle.sheet_line.specs.declared.begin.Format.the-variants.{Base, NoBase}
 use Rattle.sheet_line.specs.declared.begin.Digits.{Digits}
@@ -59,7 +59,7 @@ sized (some n) (some p) (Are f) = cond (ltb n p) BadCursor (Fresh n p f)
 abbrev pub sizeFields : List (List ℕ) → Begin
 sizeFields [] = Bad
 sizeFields (n ∷ []) = Bad
-sizeFields (n ∷ p ∷ fs) = sized (upTo 4096 (numberOf n)) (upTo (2 ^ 64 - 1) (numberOf p)) (flagFields fs)
+sizeFields (n ∷ p ∷ fs) = sized (upTo 4096 (decimalOf n)) (upTo (2 ^ 64 - 1) (decimalOf p)) (flagFields fs)
 
 -- 'The call sheet': the fields of line 1
 abbrev pub beginFields : List (List ℕ) → Begin

@@ -14,7 +14,7 @@ use Rattle.str_writer.specs.Value.{integer, char, str, display, debug, whole}
 use Rattle.writer_backend.specs.declared.value.Width.the-variants.{W8, W16, W32, W64}
 use Rattle.writer_backend.specs.Values.{bitsOf}
 use Rattle.fields.specs.Fields.{bytes, same, fields}
-use Rattle.fields.specs.Decimal.{numberOf, upTo}
+use Rattle.fields.specs.Decimal.{decimalOf, upTo}
 use Rattle.fields.specs.Hex.{fromHex}
 use Rattle.sheet_line.specs.declared.numbers.IntType.{IntType}
 use Rattle.sheet_line.specs.declared.numbers.IntType.the-variants.{Unsigned, Signed, NoType}
@@ -41,15 +41,15 @@ negative (some (suc n)) = some (negsuc n)
 -- 'The call sheet': a signed value of k bits, in decimal
 abbrev pub signedOf : ℕ → List ℕ → Option ℤ
 signedOf k [] = none
-signedOf k (b ∷ s) = cond (eqb b 45) (negative (upTo (2 ^ (k - 1)) (numberOf s))) (Option·map pos (upTo (2 ^ (k - 1) - 1) (numberOf (b ∷ s))))
+signedOf k (b ∷ s) = cond (eqb b 45) (negative (upTo (2 ^ (k - 1)) (decimalOf s))) (Option·map pos (upTo (2 ^ (k - 1) - 1) (decimalOf (b ∷ s))))
 
 -- 'The call sheet', `num`: a value of its type, in decimal; one outside it is none
 abbrev pub valueIn : IntType → List ℕ → Option ℤ
-valueIn (Unsigned w) s = Option·map pos (upTo (2 ^ bitsOf w - 1) (numberOf s))
+valueIn (Unsigned w) s = Option·map pos (upTo (2 ^ bitsOf w - 1) (decimalOf s))
 valueIn (Signed w) s = signedOf (bitsOf w) s
 valueIn NoType s = none
 
--- the bits of a type
+-- 'The call sheet': the bits of a type
 abbrev pub typeBits : IntType → ℕ
 typeBits (Unsigned w) = bitsOf w
 typeBits (Signed w) = bitsOf w
@@ -61,7 +61,7 @@ numCall t s = Option·map (λ z. value (integer debug (typeBits t) z)) (valueIn 
 
 -- 'The call sheet': `char,CODE`, decimal, unquoted; at most 2^32 - 1
 abbrev pub charCall : List ℕ → Option Call
-charCall s = Option·map (λ c. value (char display c)) (upTo (2 ^ 32 - 1) (numberOf s))
+charCall s = Option·map (λ c. value (char display c)) (upTo (2 ^ 32 - 1) (decimalOf s))
 
 -- 'The call sheet': `field` (tuple), `entry`, `finish`
 unfoldable pub oneField : List ℕ → Option Call

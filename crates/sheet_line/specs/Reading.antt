@@ -12,13 +12,13 @@ use Rattle.sheet_line.specs.declared.Parsed.{Parsed}
 use Rattle.sheet_line.specs.declared.texts.TextCall.{TextCall}
 use Rattle.sheet_line.specs.declared.texts.TextCall.the-variants.{Open, Field, Str}
 
--- the call that an opening with a name, a field of a struct or a string is
+-- 'The call sheet': the call that an opening with a name, a field of a struct or a string is
 abbrev pub withText : TextCall → List ℕ → Call
 withText (Open k) s = opens k s
 withText Field s = place (field s)
 withText (Str m) s = value (str (formOf m) s (whole s))
 
--- the text of a value that is a string
+-- 'The call sheet': the text of a value that is a string
 abbrev pub valueText : Value → List ℕ
 valueText (integer m k z) = []
 valueText (char m c) = []
@@ -26,7 +26,7 @@ valueText (str m s r) = s
 valueText (ascii m s r) = s
 valueText (repeated c n) = []
 
--- the name or the string of a call
+-- 'The call sheet': the name or the string of a call
 abbrev pub callText : Call → List ℕ
 callText (opens k s) = s
 callText (place x) = placeName x
@@ -35,21 +35,21 @@ callText (sub f) = []
 callText endsub = []
 callText finish = []
 
--- a line of another form has none
+-- 'The call sheet': a line of another form has none
 abbrev pub textIn : Option Call → List ℕ
 textIn none = []
 textIn (some c) = callText c
 
--- a call as it was read, how long its text is, and the bytes of the buffer that the text stands in
+-- 'The call sheet': a call as it was read, how long its text is, and the bytes of the buffer that the text stands in
 pub record Reading : Type 0 where
   pub call : Option Call
   pub len : ℕ
   pub bytes : List ℕ
 
--- the same of what a reading answers and the bytes as it returns
+-- 'The call sheet': the same of what a reading answers and the bytes as it returns
 abbrev pub reading : Parsed → List ℕ → Reading
 reading r b = record { call = callOf (r .op) (take (r .len) b); len = r .len; bytes = b }
 
--- a call whose text stands at the beginning of the buffer b, the rest of which is as it was
+-- 'The call sheet': a call whose text stands at the beginning of the buffer b, the rest of which is as it was
 abbrev pub readInto : List ℕ → Option Call → Reading
 readInto b c = record { call = c; len = length (textIn c); bytes = splice b 0 (textIn c) }

@@ -8,7 +8,7 @@ ghost use Rattle.agreement.specs.Call.{value};
 ghost use Rattle.str_writer.specs.Value.{integer, debug};
 ghost use Rattle.writer_backend.specs.Values.{bitsOf};
 ghost use Rattle.encoded_call.specs.Encoding.{callOf};
-ghost use Rattle.fields.specs.Decimal.{numberOf, upTo};
+ghost use Rattle.fields.specs.Decimal.{decimalOf, upTo};
 ghost use Rattle.sheet_line.specs.Line.{typeOf, negative, signedOf, numCall, charCall};
 use encoded_call::Op;
 use encoded_call::greatest;
@@ -57,7 +57,7 @@ pub fn int_type(t: &[u8]) -> IntType
 }
 
 fn unsigned_op(width: Width, s: &[u8]) -> Op
-    ensures { λ r. ⌜ callOf r [] ≡ Option·map (λ z. value (integer debug (bitsOf width) z)) (Option·map pos (upTo (2 ^ bitsOf width - 1) (numberOf (now (s .entry))))) ⌝ }
+    ensures { λ r. ⌜ callOf r [] ≡ Option·map (λ z. value (integer debug (bitsOf width) z)) (Option·map pos (upTo (2 ^ bitsOf width - 1) (decimalOf (now (s .entry))))) ⌝ }
 {
     match number(s, greatest(width)) {
         Number::Is(n) => Op::Value(PVariant::Unsigned(Form::Debug, width, n)),

@@ -19,7 +19,7 @@ use Rattle.utils.specs.Text.{saturated, part, isBoundary}
 use Rattle.char_encoding.specs.Char.{charDisplay, charInner, charDebug}
 use Rattle.char_encoding.proofs.Laws.{display-char, inner-low, inner-high, debug-some}
 use Rattle.str_writer.specs.Value.{Form, display, debug, Value, integer, char, str, ascii, repeated, stringText, textOf, inputFault, cutFault, leaves}
-use Rattle.str_writer.specs.Write.{Outcome, placed, cursorFault, firstOf, unless, write}
+use Rattle.str_writer.specs.Write.{KeepsWellFormed, Outcome, placed, cursorFault, firstOf, unless, write}
 use Rattle.str_writer.proofs.AsciiText.{low-part, low-ascii, low-replicate, low-escape, low-display, low-debug}
 use Rattle.str_writer.proofs.Outcomes.{placed-short, placed-done}
 use Rattle.str_writer.proofs.Utf8Text.{ascii-well-formed, marked-well-formed, quoted-well-formed, part-well-formed}
@@ -85,7 +85,7 @@ module _ (b : List ℕ) (at : ℕ) (k : wellFormed (take at b) ≡ true) where
 cursor-fits : (b : List ℕ) (at : ℕ) → cursorFault b at ≡ none → at ≤ length b
 cursor-fits b at e = dite (decLt (length b) at) (λ h. absurd (Option·none-ne-some BadCursor (sym (rw (lt-ltb _ _ h) at e)))) (λ h. omega arith)
 
-pub write-keeps : (f : FormattingFlags) (b : List ℕ) (at : ℕ) (v : Value) → wellFormed (take at b) ≡ true → wellFormed (take (write f b at v .written .at) (write f b at v .bytes)) ≡ true
+pub write-keeps : KeepsWellFormed
 unfolding write
 write-keeps f b at v k =
     unless-keeps b at k (cursorFault b at) (inputFault v) (cutFault v) (placed b at (textOf f v) (leaves (length b - at) v))

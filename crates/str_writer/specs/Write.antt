@@ -1,5 +1,6 @@
 -- Document 01, 'The answer to a call' and 'The writer': a single write at a cursor into a lent buffer.
-use mathlib.Core.Bool.{cond}
+use mathlib.Core.Bool.{true, cond}
+use mathlib.Core.Path.{_≡_}
 use mathlib.Core.List.{List, [], _∷_, _++_}
 use mathlib.Core.Option.{Option, none, some}
 use Prim.Native.Nat.{ℕ, _+_, _-_}
@@ -8,6 +9,7 @@ use lib.ListN.{length, take, drop}
 use Rattle.error.specs.declared.Answer.{Answer}
 use Rattle.error.specs.declared.Answer.the-variants.{Done, NotEnoughSpace, BadCursor}
 use Rattle.formatting.specs.declared.flags.FormattingFlags.{FormattingFlags}
+use Rattle.utf8.specs.Utf8.{wellFormed}
 use Rattle.str_writer.specs.declared.piece.Written.{Written}
 use Rattle.str_writer.specs.Value.{Value, textOf, inputFault, cutFault, leaves}
 
@@ -58,3 +60,9 @@ unfoldable pub write : FormattingFlags → List ℕ → ℕ → Value → Outcom
 write f b at v =
     unless (firstOf (cursorFault b at ∷ inputFault v ∷ cutFault v ∷ [])) b at
     (placed b at (textOf f v) (leaves (length b - at) v))
+
+-- 'The writer': a write keeps the text before the cursor well-formed
+abbrev pub KeepsWellFormed : Type 0
+KeepsWellFormed =
+    (f : FormattingFlags) (b : List ℕ) (at : ℕ) (v : Value) → wellFormed (take at b) ≡ true →
+    wellFormed (take (write f b at v .written .at) (write f b at v .bytes)) ≡ true

@@ -28,7 +28,7 @@ fn truncate_utf8_at(buf: &mut [u8], at: usize, length: usize) -> Written
 }
 
 impl<'w> StrWriterMut<'w> {
-    // A writer that goes on at a cursor. Where the cursor is past the buffer, each write answers 9.
+    // A writer that goes on at a cursor. Where the cursor is past the buffer, each write and truncation answers 9.
     pub fn from_custom(buffer: &'w mut [u8], length: usize) -> Self
         ensures { λ r. ⌜ (r .buffer ≡ buffer .entry) × (r .len ≡ length) ⌝ }
     {

@@ -8,7 +8,7 @@ use Prim.Native.Nat.{ℕ, _≤_, _<_, _+_, _-_, _*_, _/_, _%_}
 use native.Mathlib.Decide.{decLt, ℕ-discrete}
 use native.Mathlib.Omega.{arith}
 use borrow.Author.Tests.{lt-ltb, le-ltb, le-leb, lt-leb}
-use Rattle.utf8.specs.Utf8.{isScalar, octets, encode, allScalar, Octets, within, follow, continues, wellFormed}
+use Rattle.utf8.specs.Utf8.{SectionsAgree, isScalar, octets, encode, allScalar, Octets, within, follow, continues, wellFormed}
 use Rattle.utf8.proofs.Grammar.{First, one, two, three, three-E0, three-ED, four, four-F0, four-F4, Said, nothing, first, said, follows, inside, broken}
 
 -- well-formed text in front changes nothing, also where it begins inside a character
@@ -166,7 +166,7 @@ each-nil : {bs : List ℕ} → Each [] bs → bs ≡ []
 each-nil end = refl
 
 -- sections 3 and 4 agree
-pub well-formed : (s : List ℕ) → (wellFormed s ≡ true) ↔ ((cs : List ℕ) × (allScalar cs ≡ true) × (encode cs ≡ s))
+pub well-formed : SectionsAgree
 well-formed s = (
   λ e. let d = decoded s [] e in (d .1, d .3, rw (each-nil (d .2)) at (d .4)),
   λ t. subst (λ (u : List ℕ). wellFormed u ≡ true) (t .2) (encoded (t .0) (t .1)),

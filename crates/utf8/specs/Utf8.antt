@@ -1,6 +1,8 @@
 -- UTF-8 as RFC 3629 has it: the octets of a character number (section 3), and well-formed text (section 4). Numbers in its comments are hexadecimal.
 use mathlib.Core.Bool.{Bool, true, false, cond, _&&_, _||_}
 use mathlib.Core.Option.{Option, none, some}
+use mathlib.Core.Path.{_≡_}
+use mathlib.Core.Logic.{_↔_}
 use mathlib.Core.List.{List, [], _∷_, _++_}
 use Prim.Native.Nat.{ℕ, _+_, _/_, _%_}
 use lib.Dec.{leb, ltb, eqb}
@@ -66,3 +68,7 @@ continues (a ∷ s) (some (r ∷ rs)) = within r a && continues s (some rs)
 -- RFC 3629 section 4: whether a text is UTF8-octets = *( UTF8-char )
 abbrev pub wellFormed : List ℕ → Bool
 wellFormed s = continues s (some [])
+
+-- RFC 3629 sections 3 and 4 agree: well-formed text is exactly the octets of scalar values, one after another
+abbrev pub SectionsAgree : Type 0
+SectionsAgree = (s : List ℕ) → (wellFormed s ≡ true) ↔ ((cs : List ℕ) × (allScalar cs ≡ true) × (encode cs ≡ s))

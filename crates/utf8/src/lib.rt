@@ -111,7 +111,7 @@ fn is_short_utf8(s: &[u8]) -> bool
 }
 
 // Whether s is well-formed UTF-8. In a text that is not short the greatest byte is found many bytes
-// at a time, and tells for ASCII.
+// at a time, and tells whether it is ASCII.
 pub fn is_utf8(s: &[u8]) -> bool
     ensures { λ r. ⌜ r ≡ wellFormed (now (s .entry)) ⌝ }
 {

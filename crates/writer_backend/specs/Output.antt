@@ -12,7 +12,7 @@ abbrev pub asMode : ℕ → ℕ → Mode
 asMode zero n = writing n
 asMode (suc t) n = counting n
 
--- the mode of a WriterBackend
+-- Document 01, 'Rust forms that cannot come along': the mode of a WriterBackend
 abbrev pub modeOf : WriterBackend → Mode
 modeOf w = asMode (w .counting) (w .number)
 
@@ -20,7 +20,7 @@ modeOf w = asMode (w .counting) (w .number)
 abbrev pub devOf : WriterBackend → List ℕ → Dev
 devOf w b = record { mode = modeOf w; bytes = b }
 
--- what a piece answers, with the bytes as they are then
+-- Document 01, 'Rust forms that cannot come along': what a piece answers, with the bytes as they are then
 abbrev pub putOut : Wrote → List ℕ → Put
 putOut r b = record { answer = r .answer; dev = devOf (r .mode) b }
 

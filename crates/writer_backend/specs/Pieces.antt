@@ -18,7 +18,7 @@ abbrev pub tryAll : Put → List (List ℕ) → Put
 tryAll p [] = p
 tryAll p (s ∷ ss) = tryAll (tryOn p s) ss
 
--- the place that a spot and a name are
+-- Document 01, 'Rust forms that cannot come along': the place that a spot and a name are
 abbrev pub placeOf : Spot → List ℕ → Place
 placeOf Field s = field s
 placeOf Item s = item

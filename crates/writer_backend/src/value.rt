@@ -82,7 +82,7 @@ pub fn put_value(
     }
 }
 
-// An integer of the width, which only the two's complement of a negative one shows.
+// An unsigned integer: its text does not depend on the width.
 fn put_unsigned(
     m: WriterBackend,
     flags: FormattingFlags,
