@@ -36,7 +36,7 @@ fn op_with(t: TextCall, len: usize) -> Op
 }
 
 // Reads the text to the beginning of a buffer.
-pub fn with_text(t: TextCall, a: &[u8], text: &mut [u8]) -> Parsed
+pub(crate) fn with_text(t: TextCall, a: &[u8], text: &mut [u8]) -> Parsed
     requires { ⌜ length (now a) ≤ 2 * length (now text) ⌝ }
     ensures { λ r. ⌜ reading r (now (text .exit)) ≡ readInto (now (text .entry)) (Option·map (withText t) (fromHex (now (a .entry)))) ⌝ }
 {
