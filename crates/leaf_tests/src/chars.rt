@@ -56,7 +56,7 @@ fn case(c: u32) {
 }
 
 // The edges of each length.
-pub fn edges() {
+pub(crate) fn edges() {
     case(0);
     case(0x41);
     case(0x7E);
@@ -72,7 +72,7 @@ pub fn edges() {
 }
 
 // The six letters, the codes below 32 around them, and their neighbours.
-pub fn escapes() {
+pub(crate) fn escapes() {
     case(1);
     case(8);
     case(9);
@@ -91,7 +91,7 @@ pub fn escapes() {
 }
 
 // What is no character.
-pub fn refused() {
+pub(crate) fn refused() {
     case(0xD800);
     case(0xDBFF);
     case(0xDC00);

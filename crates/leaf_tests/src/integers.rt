@@ -229,7 +229,7 @@ fn debug_i64(x: i64, flags: FormattingFlags) {
 }
 
 // Zero, the edges of the digit counts, and the greatest of each type.
-pub fn unsigned() {
+pub(crate) fn unsigned() {
     unsigned_8();
     unsigned_16();
     unsigned_32();
@@ -282,7 +282,7 @@ fn unsigned_64_long() {
 }
 
 // The least and the greatest of each type, and the numbers around zero.
-pub fn signed() {
+pub(crate) fn signed() {
     signed_8();
     signed_16();
     signed_32();
@@ -334,7 +334,7 @@ fn signed_64() {
 }
 
 // An Integer that is negative and zero, and one whose mask keeps four bits.
-pub fn zero_below_zero() {
+pub(crate) fn zero_below_zero() {
     let flags = FormattingFlags::new();
     let i = Integer {
         is_negative: true,

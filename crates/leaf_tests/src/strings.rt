@@ -8,7 +8,7 @@ use test_print::text;
 use utils::Range;
 
 // The number of each answer, 0 to 9.
-pub fn answers() {
+pub(crate) fn answers() {
     text(b"answers:");
     answer(Answer::Done);
     answer(Answer::NotEnoughSpace);
@@ -44,7 +44,7 @@ fn ascii_case(s: &[u8]) {
     text(b"\n");
 }
 
-pub fn ascii() {
+pub(crate) fn ascii() {
     ascii_case(b"");
     ascii_case(b"foo bar");
     ascii_case(b"\x7F");
@@ -64,7 +64,7 @@ fn boundary_case(s: &[u8], index: usize) {
 }
 
 // Before, in and after a character of three octets, at the end and past it.
-pub fn boundaries() {
+pub(crate) fn boundaries() {
     boundary_case(b"a\xE2\x89\xA2b", 0);
     boundary_case(b"a\xE2\x89\xA2b", 1);
     boundary_case(b"a\xE2\x89\xA2b", 2);
@@ -96,7 +96,7 @@ fn range_case(start: usize, end: usize) {
     text(b"\n");
 }
 
-pub fn ranges() {
+pub(crate) fn ranges() {
     range_case(0, 5);
     range_case(1, 4);
     range_case(2, 2);
@@ -128,7 +128,7 @@ fn quoted_case(s: &[u8], start: usize, end: usize) {
     text(b"\n");
 }
 
-pub fn quoted() {
+pub(crate) fn quoted() {
     quoted_case(b"", 0, 0);
     quoted_case(b"abc", 1, 2);
     quoted_case(b"a'b", 1, 3);

@@ -4,7 +4,7 @@ use test_print::hex;
 use test_print::text;
 
 // All vectors.
-pub fn all() {
+pub(crate) fn all() {
     rfc3629_examples();
     rows_to_three_octets();
     rows_of_three_octets();

@@ -128,7 +128,7 @@ fn cursors() {
     written(b"cursor at the end, no call: ", 4, &no_call);
 }
 
-pub fn all() {
+pub(crate) fn all() {
     deep();
     open_64();
     totals();

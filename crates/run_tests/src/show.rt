@@ -24,7 +24,7 @@ fn flags_of(code: u8) -> FormattingFlags {
     plain.set_alternate(true).set_binary()
 }
 
-pub fn set_word(words: &mut [u64], at: usize, v: u64) {
+pub(crate) fn set_word(words: &mut [u64], at: usize, v: u64) {
     if at < words.len() {
         words[at] = v;
     }
@@ -44,7 +44,7 @@ fn widen(code: &[u8], words: &mut [u64]) {
 }
 
 // A run's first refusal, and its total or cursor.
-pub fn ended(r: Ran) {
+pub(crate) fn ended(r: Ran) {
     number(r.first as u64);
     text(b" ");
     number(r.number as u64);
@@ -132,7 +132,7 @@ fn widened(flags: FormattingFlags, code: &[u8], s: &[u8], words: &mut [u64]) {
     }
 }
 
-pub fn run(name: &[u8], flags: u8, code: &[u8], s: &[u8]) {
+pub(crate) fn run(name: &[u8], flags: u8, code: &[u8], s: &[u8]) {
     let mut words = [0u64; 256];
     text(name);
     widened(flags_of(flags), code, s, &mut words);

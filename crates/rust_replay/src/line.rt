@@ -154,7 +154,7 @@ fn plays(
 }
 
 // Whether the run of a line gives what const_format gave. A line that is none, or too long, is not.
-pub fn is_same(s: &[u8]) -> bool {
+pub(crate) fn is_same(s: &[u8]) -> bool {
     let mut words = [0u64; 200];
     let mut text = [0u8; 400];
     let mut buf = [0u8; 400];

@@ -20,7 +20,7 @@ pub enum Call {
     CharDebug(u32),
 }
 
-pub fn play(call: Call, s: &[u8], buf: &mut [u8], at: usize) -> Written {
+pub(crate) fn play(call: Call, s: &[u8], buf: &mut [u8], at: usize) -> Written {
     match call {
         Call::Str => str_writer::write_str(buf, at, s),
         Call::StrRange(start, end) => str_writer::write_str_range(buf, at, s, Range { start, end }),
@@ -43,7 +43,7 @@ pub fn play(call: Call, s: &[u8], buf: &mut [u8], at: usize) -> Written {
 }
 
 // The name of the function and its arguments.
-pub fn show(call: Call, s: &[u8]) {
+pub(crate) fn show(call: Call, s: &[u8]) {
     subject(call);
     form(call);
     arguments(call, s);

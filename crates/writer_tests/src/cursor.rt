@@ -17,7 +17,7 @@ fn given_at(at: usize) {
 }
 
 // The cursor at the start, inside, at the end, one past it and far past it.
-pub fn given() {
+pub(crate) fn given() {
     given_at(0);
     given_at(1);
     given_at(3);
@@ -36,7 +36,7 @@ fn truncated_to(buf: &[u8], at: usize, length: usize) {
 }
 
 // Lengths below, at and above the cursor, at the end of the buffer, and a cursor past it.
-pub fn truncated() {
+pub(crate) fn truncated() {
     of_ascii(3, 0);
     of_ascii(3, 2);
     of_ascii(3, 3);
@@ -52,7 +52,7 @@ fn of_ascii(at: usize, length: usize) {
 }
 
 // Before, in and after a character, and a cursor inside it.
-pub fn truncated_inside() {
+pub(crate) fn truncated_inside() {
     of_three_octets(5, 1);
     of_three_octets(5, 2);
     of_three_octets(5, 3);
@@ -68,7 +68,7 @@ fn of_three_octets(at: usize, length: usize) {
 
 // A byte past the text that continues a character: 3 at the cursor itself, for UTF-8 only. Then the
 // bytes at the edges of those that continue a character.
-pub fn stale() {
+pub(crate) fn stale() {
     truncated_to(b"a\xA9", 1, 1);
     of_edges(4, 1);
     of_edges(4, 2);

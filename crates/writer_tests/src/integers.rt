@@ -155,7 +155,7 @@ fn case(x: Integer, value: &[u8], hexadecimal: u8, binary: u8) {
     around(x, value, Form::BinaryAlternate, binary as usize + 2);
 }
 
-pub fn unsigned() {
+pub(crate) fn unsigned() {
     case(Integer::U8(0), b"0", 1, 1);
     case(Integer::U8(255), b"255", 2, 8);
     case(Integer::U16(65535), b"65535", 4, 16);
@@ -168,7 +168,7 @@ pub fn unsigned() {
     );
 }
 
-pub fn signed() {
+pub(crate) fn signed() {
     case(Integer::I8(-128), b"-128", 2, 8);
     case(Integer::I8(-1), b"-1", 2, 8);
     case(Integer::I16(-32768), b"-32768", 4, 16);

@@ -30,7 +30,7 @@ fn char(c: u32) {
 }
 
 // 2, also where the range leaves the byte out.
-pub fn not_ascii() {
+pub(crate) fn not_ascii() {
     ascii(b"ab\x80");
     ascii(b"\xC3\xA9");
     places(Call::AsciiRange(0, 1), b"ab\xFF");
@@ -38,7 +38,7 @@ pub fn not_ascii() {
 }
 
 // 3: a range that cuts a character at its start, at its end, at both.
-pub fn cut() {
+pub(crate) fn cut() {
     of_three_octets(2, 5);
     of_three_octets(3, 5);
     of_three_octets(0, 2);
@@ -52,7 +52,7 @@ fn of_three_octets(start: usize, end: usize) {
 }
 
 // 4, also where the range leaves the fault out, and before 3 where the range cuts a character.
-pub fn not_utf8() {
+pub(crate) fn not_utf8() {
     string(b"\x80");
     string(b"ab\xC3");
     string(b"'\xED\xA0\x80");
@@ -66,7 +66,7 @@ fn before_a_fault(start: usize, end: usize) {
 }
 
 // 5.
-pub fn not_a_char() {
+pub(crate) fn not_a_char() {
     char(0xD800);
     char(0xDFFF);
     char(0x110000);

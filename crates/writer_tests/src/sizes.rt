@@ -13,7 +13,7 @@ fn shown(call: Call, s: &[u8], buf: &mut [u8], at: usize) {
 }
 
 // One line: a buffer of n dots, at most 72.
-pub fn line(call: Call, s: &[u8], n: usize, at: usize) {
+pub(crate) fn line(call: Call, s: &[u8], n: usize, at: usize) {
     let mut space = [b'.'; 72];
     if n <= 72 {
         shown(call, s, &mut space[0..n], at);
@@ -31,7 +31,7 @@ fn lines(call: Call, s: &[u8], first: usize, stop: usize, at: usize) {
 
 // A call whose text has len bytes, into every length up to one byte long; with the cursor past the
 // end, far past it and at the end too.
-pub fn every(call: Call, s: &[u8], len: u8) {
+pub(crate) fn every(call: Call, s: &[u8], len: u8) {
     let len = len as usize;
     lines(call, s, 0, len + 2, 0);
     line(call, s, 2, 18446744073709551615);
@@ -40,7 +40,7 @@ pub fn every(call: Call, s: &[u8], len: u8) {
 
 // The same, with only one byte short, exact and one byte long of the lengths that let something be
 // written.
-pub fn around(call: Call, s: &[u8], len: u8) {
+pub(crate) fn around(call: Call, s: &[u8], len: u8) {
     if len < 2 {
         every(call, s, len);
         return;

@@ -33,7 +33,7 @@ fn char(c: u32, bare: u8, quoted: u8) {
 }
 
 // One escape, of two and of four bytes, at the start, in the middle and at the end.
-pub fn one_escape() {
+pub(crate) fn one_escape() {
     string(b"\nab", 3, 6);
     string(b"a\"b", 3, 6);
     string(b"ab\\", 3, 6);
@@ -44,7 +44,7 @@ pub fn one_escape() {
 
 // All six letters, escapes of both lengths in turn, characters of several octets, no escape, no
 // text.
-pub fn strings() {
+pub(crate) fn strings() {
     string(b"\t\n\r\\'\"", 6, 14);
     string(b"\x07'\x0B\t", 4, 14);
     string(b"\xC3\xA9'\xE2\x89\xA2\xF0\x9D\x84\x9E", 10, 13);
@@ -52,7 +52,7 @@ pub fn strings() {
     string(b"", 0, 2);
 }
 
-pub fn ascii_texts() {
+pub(crate) fn ascii_texts() {
     ascii(b"'ab", 3, 6);
     ascii(b"a\x7F\x02b", 4, 9);
     ascii(b"ab\r", 3, 6);
@@ -60,7 +60,7 @@ pub fn ascii_texts() {
 }
 
 // Whole, inside, clamped at the end, clamped at the start.
-pub fn ranges() {
+pub(crate) fn ranges() {
     range(0, 7, 7, 11);
     range(1, 5, 4, 7);
     range(5, 18446744073709551615, 2, 5);
@@ -72,7 +72,7 @@ pub fn ranges() {
 }
 
 // A quoted character that does not fit leaves nothing.
-pub fn chars_of_one_octet() {
+pub(crate) fn chars_of_one_octet() {
     char(0, 1, 6);
     char(0x0A, 1, 4);
     char(0x1F, 1, 6);
@@ -81,7 +81,7 @@ pub fn chars_of_one_octet() {
     char(0x7F, 1, 3);
 }
 
-pub fn chars_of_several_octets() {
+pub(crate) fn chars_of_several_octets() {
     char(0x80, 2, 4);
     char(0x7FF, 2, 4);
     char(0x800, 3, 5);
@@ -95,7 +95,7 @@ fn repeated(c: u8, len: u8) {
 }
 
 // The top bit is dropped.
-pub fn repeats() {
+pub(crate) fn repeats() {
     repeated(0x2D, 0);
     repeated(0x2D, 1);
     repeated(0x20, 8);
