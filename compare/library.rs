@@ -1,26 +1,10 @@
 //! The functions of libtable_text.a and libsingle_writes.a, declared once, and a run as they take it.
 #![allow(dead_code)]
 
-extern "C" {
-    fn table_text_count(
-        flags: u64,
-        calls: *const u64,
-        calls_len: usize,
-        text: *const u8,
-        text_len: usize,
-        total: *mut usize,
-    ) -> u8;
-    fn table_text_write(
-        flags: u64,
-        buf: *mut u8,
-        buf_len: usize,
-        cursor: *mut usize,
-        calls: *const u64,
-        calls_len: usize,
-        text: *const u8,
-        text_len: usize,
-    ) -> u8;
-}
+#[path = "../client/src/ffi.rs"]
+mod ffi;
+
+use ffi::{table_text_count, table_text_write};
 
 /// The first refusal and the total of a run of words.
 pub fn count(flags: u64, calls: &[u64], text: &[u8]) -> (u8, usize) {

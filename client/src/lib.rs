@@ -10,28 +10,7 @@
 use std::fmt;
 use std::ops::{Deref, DerefMut, Range};
 
-mod ffi {
-    extern "C" {
-        pub fn table_text_count(
-            flags: u64,
-            calls: *const u64,
-            calls_len: usize,
-            text: *const u8,
-            text_len: usize,
-            total: *mut usize,
-        ) -> u8;
-        pub fn table_text_write(
-            flags: u64,
-            buf: *mut u8,
-            buf_len: usize,
-            cursor: *mut usize,
-            calls: *const u64,
-            calls_len: usize,
-            text: *const u8,
-            text_len: usize,
-        ) -> u8;
-    }
-}
+mod ffi;
 
 /// The numbers that the library knows the calls by.
 mod call {
