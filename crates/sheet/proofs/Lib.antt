@@ -1,3 +1,4 @@
 pub mod Agrees
+pub mod Example
 pub mod Printing
 pub mod Stepping
