@@ -1,4 +1,6 @@
 // Whether bytes are UTF-8, by the grammar of RFC 3629 section 4: what holds of every value of Rust's type str.
+ghost use mathlib.Core.Bool.{true};
+ghost use mathlib.Core.Logic.{_↔_};
 ghost use mathlib.Core.Path.{_≡_};
 ghost use mathlib.Core.Option.{some};
 ghost use mathlib.Core.List.{List, _∷_};
@@ -96,30 +98,40 @@ fn by_octets(s: &[u8]) -> bool
     expected.0 == 0
 }
 
-// Whether a short s is well-formed: bytes below 0x80 are passed one by one.
-fn is_short_utf8(s: &[u8]) -> bool
-    ensures { λ r. ⌜ r ≡ wellFormed (now (s .entry)) ⌝ }
+// Whether every byte of s is below 0x80, byte by byte.
+fn is_ascii(s: &[u8]) -> bool
+    ensures { λ r. ⌜ (r ≡ true) ↔ ((k : ℕ) → k < length (now (s .entry)) → getD (now (s .entry)) k 0 ≤ 0x7F) ⌝ }
 {
     let mut i = 0;
     while i < s.len() {
         if 0x7F < s[i] {
-            return by_octets(s);
+            return false;
         }
         i += 1;
     }
     true
 }
 
-// Whether s is well-formed UTF-8. In a text that is not short the greatest byte is found many bytes
-// at a time, and tells whether it is ASCII.
-pub fn is_utf8(s: &[u8]) -> bool
+// Whether s is well-formed. The greatest byte is found many bytes at a time, and tells whether all
+// are ASCII.
+fn is_long_utf8(s: &[u8]) -> bool
     ensures { λ r. ⌜ r ≡ wellFormed (now (s .entry)) ⌝ }
 {
-    if s.len() < 16 {
-        return is_short_utf8(s);
-    }
     if greatest(s) < 0x80 {
         return true;
     }
     by_octets(s)
+}
+
+// Whether s is well-formed UTF-8. A short text is nearly always ASCII, and that is found out here, in
+// few steps: the compiler can lay them into the caller.
+pub fn is_utf8(s: &[u8]) -> bool
+    ensures { λ r. ⌜ r ≡ wellFormed (now (s .entry)) ⌝ }
+{
+    if s.len() < 16 {
+        if is_ascii(s) {
+            return true;
+        }
+    }
+    is_long_utf8(s)
 }
