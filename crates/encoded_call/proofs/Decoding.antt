@@ -1,4 +1,4 @@
--- The numbers of a call's words: the number format and the width that they are, and the integers of a width, over the width.
+-- The numbers of a call's words: the width that they are, and the integers of a width, over the width.
 use mathlib.Core.Bool.{true, false}
 use mathlib.Core.Path.{_≡_, refl}
 use Prim.Native.Nat.{ℕ, zero, suc, _+_, _*_, _-_, _/_, _^_, _≤_, _<_}
@@ -8,18 +8,12 @@ use mir.Syntax.{w64}
 use mir.Val.{toZ}
 use mir.Facts.{toZ-pos, toZ-neg}
 use borrow.Author.Tests.{lt-ltb, le-ltb}
-use Rattle.formatting.specs.declared.flags.NumberFormatting.the-variants.{Binary}
 use Rattle.writer_backend.specs.declared.value.Width.{Width}
 use Rattle.writer_backend.specs.declared.value.Width.the-variants.{W8, W16, W32, W64}
 use Rattle.writer_backend.specs.Values.{bitsOf}
-use Rattle.encoded_call.specs.Encoding.{numFmtAt, widthAt, signedAt}
+use Rattle.encoded_call.specs.Encoding.{widthAt, signedAt}
 
 -- past the numbers before the last, the last
-pub last-format : (n : ℕ) → (n ≡ 0 → ⊥) → (n ≡ 1 → ⊥) → Binary ≡ numFmtAt n
-last-format zero p q = absurd (p refl)
-last-format (suc zero) p q = absurd (q refl)
-last-format (suc (suc n)) p q = refl
-
 pub last-width : (n : ℕ) → (n ≡ 0 → ⊥) → (n ≡ 1 → ⊥) → (n ≡ 2 → ⊥) → W64 ≡ widthAt n
 last-width zero p q r = absurd (p refl)
 last-width (suc zero) p q r = absurd (q refl)

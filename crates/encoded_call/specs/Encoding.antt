@@ -6,10 +6,7 @@ use Prim.Native.Nat.{ℕ, zero, suc, _-_, _/_, _%_, _^_}
 use lib.Dec.{leb, ltb, eqb}
 use lib.IntN.{ℤ, pos, negsuc}
 use lib.ListN.{length, take, drop}
-use Rattle.formatting.specs.declared.flags.FormattingFlags.{FormattingFlags}
-use Rattle.formatting.specs.declared.flags.NumberFormatting.{NumberFormatting}
-use Rattle.formatting.specs.declared.flags.NumberFormatting.the-variants.{Decimal, Hexadecimal, Binary}
-use Rattle.formatting.specs.declared.flags.HexFormatting.the-variants.{Upper, Lower}
+use Rattle.formatting.specs.FlagsAsNumber.{flagsOf}
 use Rattle.agreement.specs.declared.Kind.the-variants.{Struct, Tuple, Set}
 use Rattle.agreement.specs.declared.Kind.the-variants as kind
 use Rattle.agreement.specs.Call.{Call, opens, place, value, sub, endsub, finish}
@@ -25,16 +22,6 @@ use Rattle.writer_backend.specs.Pieces.{placeOf}
 use Rattle.writer_backend.specs.Values.{bitsOf, valueOf}
 use Rattle.encoded_call.specs.declared.Op.{Op}
 use Rattle.encoded_call.specs.declared.Op.the-variants.{Open, Place, Finish, Sub, EndSub, Value, Nothing}
-
--- the number format that a number is
-abbrev pub numFmtAt : ℕ → NumberFormatting
-numFmtAt zero = Decimal
-numFmtAt (suc zero) = Hexadecimal
-numFmtAt (suc (suc n)) = Binary
-
--- the flags that a number below 12 is: by four the number format, by two the case, its last bit alternate or not
-abbrev pub flagsAt : ℕ → FormattingFlags
-flagsAt a = record { «num_fmt» = numFmtAt (a / 4); «hex_fmt» = cond (eqb (a / 2 % 2) 0) Upper Lower; «is_alternate» = eqb (a % 2) 1 }
 
 -- the width that a number is: 8, 16, 32 or 64 bits
 abbrev pub widthAt : ℕ → Width
@@ -90,7 +77,7 @@ opAt o a b =
     (cond (eqb o 5) (Place Item)
     (cond (eqb o 6) (Place spot.Entry)
     (cond (eqb o 7) Finish
-    (cond (eqb o 8) (cond (ltb a 12) (Sub (flagsAt a)) Nothing)
+    (cond (eqb o 8) (cond (ltb a 12) (Sub (flagsOf a)) Nothing)
     (cond (eqb o 9) EndSub
     (valueAt o a b))))))))))
 

@@ -7,7 +7,7 @@ ghost use Prim.Native.Nat.{ℕ, _+_, _^_, _<_};
 ghost use lib.ListN.{getD};
 ghost use Rattle.formatter.specs.View.{view, viewOut};
 ghost use Rattle.writer_backend.specs.Values.{bitsOf};
-ghost use Rattle.encoded_call.specs.Encoding.{valueAt, opAt, callOf, callAt, numFmtAt, flagsAt, widthAt, signedAt, unsignedAt, integerAt, charAt, repeatedAt, stepOr};
+ghost use Rattle.encoded_call.specs.Encoding.{valueAt, opAt, callOf, callAt, widthAt, signedAt, unsignedAt, integerAt, charAt, repeatedAt, stepOr};
 use agreement::Kind;
 use formatter::HStep;
 use formatter::Head;
@@ -18,8 +18,7 @@ use formatter::place_at;
 use formatter::sub_at;
 use formatter::value_at;
 use formatting::FormattingFlags;
-use formatting::HexFormatting;
-use formatting::NumberFormatting;
+use formatting::flags_of;
 use utils::Range;
 use writer_backend::Form;
 use writer_backend::PVariant;
@@ -36,37 +35,6 @@ pub enum Op {
     EndSub,
     Value(PVariant),
     Nothing,
-}
-
-fn num_fmt_at(n: u64) -> NumberFormatting
-    ensures { λ r. ⌜ r ≡ numFmtAt n ⌝ }
-{
-    if n == 0 {
-        return NumberFormatting::Decimal;
-    }
-    if n == 1 {
-        return NumberFormatting::Hexadecimal;
-    }
-    NumberFormatting::Binary
-}
-
-pub fn flags_at(a: u64) -> FormattingFlags
-    ensures { λ r. ⌜ r ≡ flagsAt a ⌝ }
-{
-    let num_fmt = num_fmt_at(a / 4);
-    let is_alternate = a % 2 == 1;
-    if a / 2 % 2 == 0 {
-        return FormattingFlags {
-            num_fmt,
-            hex_fmt: HexFormatting::Upper,
-            is_alternate,
-        };
-    }
-    FormattingFlags {
-        num_fmt,
-        hex_fmt: HexFormatting::Lower,
-        is_alternate,
-    }
 }
 
 fn width_at(n: u64) -> Width
@@ -227,7 +195,7 @@ fn op_at(o: u64, a: u64, b: u64) -> Op
         if 12 <= a {
             return Op::Nothing;
         }
-        return Op::Sub(flags_at(a));
+        return Op::Sub(flags_of(a));
     }
     if o == 9 {
         return Op::EndSub;

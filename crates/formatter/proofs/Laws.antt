@@ -3,33 +3,20 @@ use mathlib.Core.Bool.{true}
 use mathlib.Core.Path.{_≡_, refl, _∙_}
 use Prim.Native.Nat.{ℕ, zero, suc, _+_, _*_, _/_, _%_, _≤_, _<_}
 use native.Mathlib.Omega.{arith}
+use lib.Dec.{eqb}
 use borrow.Author.Tests.{le-leb, lt-leb}
-use Rattle.formatting.specs.declared.flags.NumberFormatting.the-variants.{Binary}
-use Rattle.formatting.specs.declared.flags.HexFormatting.the-variants.{Lower}
+use Rattle.formatting.specs.FlagsAsNumber.{flagsOf}
 use Rattle.agreement.specs.declared.Kind.the-variants.{Set}
 use Rattle.agreement.specs.declared.Entry.the-variants.{Builder as builder, Outer as outer}
-use Rattle.formatter.specs.Entries.{kindOf, numFmtOf, hexFmtOf, isOne, builderOf, outerOf, byTag, entryOf}
-use Rattle.formatter.specs.View.{depthOf}
+use Rattle.formatter.specs.Entries.{kindOf, builderOf, outerOf, byTag, entryOf}
+use Rattle.formatter.specs.View.{depthOf, marginOf}
 
--- the last case of each part
+-- the last kind
 pub set-of : (n : ℕ) → (n ≡ 0 → ⊥) → (n ≡ 1 → ⊥) → (n ≡ 2 → ⊥) → Set ≡ kindOf n
 set-of zero p q r = absurd (p refl)
 set-of (suc zero) p q r = absurd (q refl)
 set-of (suc (suc zero)) p q r = absurd (r refl)
 set-of (suc (suc (suc n))) p q r = refl
-
-pub binary-of : (n : ℕ) → (n ≡ 0 → ⊥) → (n ≡ 1 → ⊥) → Binary ≡ numFmtOf n
-binary-of zero p q = absurd (p refl)
-binary-of (suc zero) p q = absurd (q refl)
-binary-of (suc (suc n)) p q = refl
-
-pub lower-of : (n : ℕ) → (n ≡ 0 → ⊥) → Lower ≡ hexFmtOf n
-lower-of zero p = absurd (p refl)
-lower-of (suc n) p = refl
-
-pub one-of : (n : ℕ) → (n ≡ 0 → ⊥) → true ≡ isOne n
-one-of zero p = absurd (p refl)
-one-of (suc n) p = refl
 
 -- even and odd
 pub is-builder : (n : ℕ) → n % 2 ≡ 0 → entryOf n ≡ builderOf n
@@ -45,7 +32,7 @@ is-outer n h = go (n % 2) h
     go (suc t) q = refl
 
 -- unpacking after packing
-pub packed-builder : (a b h : ℕ) → a < 4 → b < 2 → h < 256 → entryOf (2 * a + 8 * b + 16 * h) ≡ builder (kindOf a) (isOne b) h
+pub packed-builder : (a b h : ℕ) → a < 4 → b < 2 → h < 256 → entryOf (2 * a + 8 * b + 16 * h) ≡ builder (kindOf a) (eqb b 1) h
 packed-builder a b h ha hb hh =
     let n = 2 * a + 8 * b + 16 * h in
     let q₁ : n / 2 ≡ a + 4 * b + 8 * h = omega arith in
@@ -56,19 +43,18 @@ packed-builder a b h ha hb hh =
     let e₃ : n / 16 % 256 ≡ h = rw q₃ (omega arith) in
     is-builder n (omega arith) ∙ rw (e₁, e₂, e₃)
 
-pub packed-outer : (a b d m : ℕ) → a < 4 → b < 2 → d < 2 → m < 65536
-    → entryOf (1 + 2 * a + 8 * b + 16 * d + 32 * m) ≡ outer (record { «num_fmt» = numFmtOf a; «hex_fmt» = hexFmtOf b; «is_alternate» = isOne d }) m
-packed-outer a b d m ha hb hd hm =
-    let n = 1 + 2 * a + 8 * b + 16 * d + 32 * m in
-    let q₁ : n / 2 ≡ a + 4 * b + 8 * d + 16 * m = omega arith in
-    let q₂ : n / 8 ≡ b + 2 * d + 4 * m = omega arith in
-    let q₃ : n / 16 ≡ d + 2 * m = omega arith in
-    let q₄ : n / 32 ≡ m = omega arith in
-    let e₁ : n / 2 % 4 ≡ a = rw q₁ (omega arith) in
-    let e₂ : n / 8 % 2 ≡ b = rw q₂ (omega arith) in
-    let e₃ : n / 16 % 2 ≡ d = rw q₃ (omega arith) in
-    let e₄ : n / 32 % 65536 ≡ m = rw q₄ (omega arith) in
-    is-outer n (λ q. omega arith) ∙ rw (e₁, e₂, e₃, e₄)
+pub packed-outer : (a m : ℕ) → a < 16 → m < 65536 → entryOf (1 + 2 * a + 32 * m) ≡ outer (flagsOf a) m
+packed-outer a m ha hm =
+    let n = 1 + 2 * a + 32 * m in
+    let q₁ : n / 2 ≡ a + 16 * m = omega arith in
+    let q₂ : n / 32 ≡ m = omega arith in
+    let e₁ : n / 2 % 16 ≡ a = rw q₁ (omega arith) in
+    let e₂ : n / 32 % 65536 ≡ m = rw q₂ (omega arith) in
+    is-outer n (λ q. omega arith) ∙ rw (e₁, e₂)
+
+-- a margin of 16 bits
+pub margin-in : (m : ℕ) → m < 65536 → marginOf m ≡ m
+margin-in m h = omega arith
 
 -- a depth within the stack, and one above it
 pub depth-in : (d : ℕ) → d ≤ 64 → d ≡ depthOf d

@@ -10,6 +10,7 @@ use lib.ListN.{length, getD, set}
 use lib.Seq.{getD-set-same, getD-set-other}
 use borrow.Author.Tests.{leb-false, ltb-false, le-leb, lt-leb}
 use Rattle.formatting.specs.declared.flags.FormattingFlags.{FormattingFlags}
+use Rattle.formatting.specs.FlagsAsNumber.{flagsOf}
 use Rattle.str_writer.specs.Value.{Value}
 use Rattle.agreement.specs.declared.Kind.{Kind}
 use Rattle.agreement.specs.declared.Entry.{Entry}
@@ -23,8 +24,8 @@ use Rattle.writer_backend.specs.Values.{unlessFault, valueOut}
 use Rattle.writer_backend.proofs.Sequence.{tried}
 use Rattle.formatter.specs.declared.head.Head.{Head}
 use Rattle.formatter.specs.Entries.{entryOf}
-use Rattle.formatter.specs.View.{depthOf, stackOf, view, viewOut}
-use Rattle.formatter.proofs.Laws.{depth-in}
+use Rattle.formatter.specs.View.{depthOf, stackOf, marginOf, view, viewOut}
+use Rattle.formatter.proofs.Laws.{depth-in, margin-in}
 
 -- the stack of numbers after a store, and its innermost entry
 stack-set : (s : List ℕ) (d i v : ℕ) → d ≤ i → stackOf (set s i v) d ≡ stackOf s d
@@ -99,8 +100,8 @@ module _ (h : Head) (s b : List ℕ) (o : ℕ) (eo : o ≡ beyond (modeOf (h .mo
           pub finish-outer : viewOut (record { answer = 8; head = h }) s b ≡ step (view h s b) finish
           finish-outer = inner finish _ (rw (top (outer f m) q))
 
-          pub endsub-done : viewOut (record { answer = 0; head = record { mode = h .mode; flags = f; margin = m; depth = d - 1 } }) s b ≡ step (view h s b) endsub
-          endsub-done = inner endsub _ (rw (top (outer f m) q, below))
+          pub endsub-done : m < 65536 → (n : ℕ) → flagsOf n ≡ f → viewOut (record { answer = 0; head = record { mode = h .mode; flags = n; margin = m; depth = d - 1 } }) s b ≡ step (view h s b) endsub
+          endsub-done hm n en = inner endsub _ (rw (top (outer f m) q, below, margin-in m hm, en))
 
         module _ (k : Kind) (has : Bool) (g : ℕ) (q : e ≡ builder k has g) where
           pub endsub-builder : viewOut (record { answer = 8; head = h }) s b ≡ step (view h s b) endsub
@@ -109,51 +110,51 @@ module _ (h : Head) (s b : List ℕ) (o : ℕ) (eo : o ≡ beyond (modeOf (h .mo
           pub finish-held : (g ≡ 0 → ⊥) → viewOut (record { answer = g; head = record { mode = h .mode; flags = h .flags; margin = h .margin; depth = d - 1 } }) s b ≡ step (view h s b) finish
           finish-held n = inner finish _ (rw (top (builder k has g) q, below) (go g n))
             where
-              go : (y : ℕ) → (y ≡ 0 → ⊥) → record { answer = y; state = record { dev = devOf (h .mode) b; flags = h .flags; margin = h .margin; stack = stackOf s (d - 1) } }
-                  ≡ finishAt (record { dev = devOf (h .mode) b; flags = h .flags; margin = h .margin; stack = builder k has g ∷ stackOf s (d - 1) }) (builder k has y ∷ stackOf s (d - 1))
+              go : (y : ℕ) → (y ≡ 0 → ⊥) → record { answer = y; state = record { dev = devOf (h .mode) b; flags = flagsOf (h .flags); margin = marginOf (h .margin); stack = stackOf s (d - 1) } }
+                  ≡ finishAt (record { dev = devOf (h .mode) b; flags = flagsOf (h .flags); margin = marginOf (h .margin); stack = builder k has g ∷ stackOf s (d - 1) }) (builder k has y ∷ stackOf s (d - 1))
               go zero w = absurd (w refl)
               go (suc y) w = refl
 
-          pub finish-closed : g ≡ 0 → (w : Wrote) (b' : List ℕ) (m : ℕ) → m ≡ h .margin - 4
-              → putOut w b' ≡ stops (devOf (h .mode) b) (closePieces k has (h .flags .«is_alternate») m)
+          pub finish-closed : g ≡ 0 → (w : Wrote) (b' : List ℕ) (f : FormattingFlags) → f ≡ flagsOf (h .flags) → (m : ℕ) → m ≡ marginOf (h .margin) - 4
+              → putOut w b' ≡ stops (devOf (h .mode) b) (closePieces k has (f .«is_alternate») m)
               → viewOut (record { answer = w .answer; head = record { mode = w .mode; flags = h .flags; margin = m; depth = d - 1 } }) s b' ≡ step (view h s b) finish
-          finish-closed n w b' m em ew =
-              inner finish _ (rw (top (builder k has g) q, below, n, ← em)
-              (ap (λ (p : Put). record { answer = p .answer; state = record { dev = p .dev; flags = h .flags; margin = m; stack = stackOf s (d - 1) } }) ew))
+          finish-closed n w b' f ef m em ew =
+              inner finish _ (rw (top (builder k has g) q, below, n, ← em, margin-in m (omega arith))
+              (ap (λ (p : Put). record { answer = p .answer; state = record { dev = p .dev; flags = flagsOf (h .flags); margin = m; stack = stackOf s (d - 1) } }) (rw ef at ew)))
 
           module _ (x : Place) (n : ℕ) (en : n ≡ placeFault x k) where
             pub place-refused : (n ≡ 0 → ⊥) → viewOut (record { answer = n; head = h }) s b ≡ step (view h s b) (place x)
             place-refused p = inner (place x) _ (rw (top (builder k has g) q, ← en) (guard-on n _ _ p))
 
-            pub place-done : n ≡ 0 → length s ≡ 64 → (w : Wrote) (b' : List ℕ) (v : ℕ)
-                → putOut w b' ≡ tryAll (record { answer = g; dev = devOf (h .mode) b }) (placePieces k has (h .flags .«is_alternate») (h .margin) x)
+            pub place-done : n ≡ 0 → length s ≡ 64 → (w : Wrote) (b' : List ℕ) (v : ℕ) (f : FormattingFlags) → f ≡ flagsOf (h .flags) → (m : ℕ) → m ≡ marginOf (h .margin)
+                → putOut w b' ≡ tryAll (record { answer = g; dev = devOf (h .mode) b }) (placePieces k has (f .«is_alternate») m x)
                 → entryOf v ≡ builder k true (w .answer)
                 → viewOut (record { answer = 0; head = record { mode = w .mode; flags = h .flags; margin = h .margin; depth = d } }) (set s (d - 1) v) b' ≡ step (view h s b) (place x)
-            place-done p l w b' v ew ev =
+            place-done p l w b' v f ef m em ew ev =
                 let t : stackOf (set s (d - 1) v) (depthOf d) ≡ builder k true (w .answer) ∷ stackOf s (d - 1) =
                 rw (← depth-in d hd, stack-top (set s (d - 1) v) d z, getD-set-same s (d - 1) v 0 (omega arith), ev, stack-set s (d - 1) (d - 1) v (omega arith)) in
-                inner (place x) _ (rw (top (builder k has g) q, ← en, p, t)
-                (ap (λ (y : Put). record { answer = 0; state = record { dev = y .dev; flags = h .flags; margin = h .margin; stack = builder k true (y .answer) ∷ stackOf s (d - 1) } })
-                (ew ∙ tried g (devOf (h .mode) b) (placePieces k has (h .flags .«is_alternate») (h .margin) x))))
+                inner (place x) _ (rw (top (builder k has g) q, ← en, p, t, ← em)
+                (ap (λ (y : Put). record { answer = 0; state = record { dev = y .dev; flags = flagsOf (h .flags); margin = m; stack = builder k true (y .answer) ∷ stackOf s (d - 1) } })
+                (rw ef at ew ∙ tried g (devOf (h .mode) b) (placePieces k has (flagsOf (h .flags) .«is_alternate») m x))))
 
       -- an entry more
       pushed : (v : ℕ) (x : Entry) → length s ≡ 64 → d < 64 → entryOf v ≡ x → stackOf (set s d v) (depthOf (d + 1)) ≡ x ∷ stackOf s (depthOf (h .depth))
       pushed v x l hl ev = rw (← depth-in (d + 1) (omega arith), stack-push s d v (omega arith), ev, ← ed)
 
-      module _ (k : Kind) (name : List ℕ) (n : ℕ) (en : n ≡ openFault (readyTop (stackOf s d)) d (h .margin) (nameOf k name)) where
-        fault : n ≡ openFault (readyTop (stackOf s (depthOf (h .depth)))) (length (stackOf s (depthOf (h .depth)))) (h .margin) (nameOf k name)
-        fault = rw (← ed, length-stack s d) en
+      module _ (k : Kind) (name : List ℕ) (m : ℕ) (em : m ≡ marginOf (h .margin)) (n : ℕ) (en : n ≡ openFault (readyTop (stackOf s d)) d m (nameOf k name)) where
+        fault : n ≡ openFault (readyTop (stackOf s (depthOf (h .depth)))) (length (stackOf s (depthOf (h .depth)))) (marginOf (h .margin)) (nameOf k name)
+        fault = rw (← ed, length-stack s d, ← em) en
 
         pub open-refused : (n ≡ 0 → ⊥) → viewOut (record { answer = n; head = h }) s b ≡ step (view h s b) (opens k name)
         open-refused p = inner (opens k name) _ (rw (← fault) (guard-on n _ _ p))
 
-        pub open-done : n ≡ 0 → length s ≡ 64 → d < 64 → (w : Wrote) (b' : List ℕ) (v : ℕ)
+        pub open-done : n ≡ 0 → length s ≡ 64 → d < 64 → m ≤ 65531 → (w : Wrote) (b' : List ℕ) (v : ℕ)
             → putOut w b' ≡ tries (devOf (h .mode) b) (namePieces k name)
             → entryOf v ≡ builder k false (w .answer)
-            → viewOut (record { answer = 0; head = record { mode = w .mode; flags = h .flags; margin = h .margin + 4; depth = d + 1 } }) (set s d v) b' ≡ step (view h s b) (opens k name)
-        open-done p l hl w b' v ew ev =
-            inner (opens k name) _ (rw (← fault, p, pushed v (builder k false (w .answer)) l hl ev)
-            (ap (λ (y : Put). record { answer = 0; state = record { dev = y .dev; flags = h .flags; margin = h .margin + 4; stack = builder k false (y .answer) ∷ stackOf s (depthOf (h .depth)) } }) ew))
+            → viewOut (record { answer = 0; head = record { mode = w .mode; flags = h .flags; margin = m + 4; depth = d + 1 } }) (set s d v) b' ≡ step (view h s b) (opens k name)
+        open-done p l hl hm w b' v ew ev =
+            inner (opens k name) _ (rw (← fault, p, pushed v (builder k false (w .answer)) l hl ev, margin-in (m + 4) (omega arith), ← em)
+            (ap (λ (y : Put). record { answer = 0; state = record { dev = y .dev; flags = flagsOf (h .flags); margin = m + 4; stack = builder k false (y .answer) ∷ stackOf s (depthOf (h .depth)) } }) ew))
 
       -- whether a write or an opening suits
       module _ (r : Bool) (er : r ≡ readyTop (stackOf s d)) where
@@ -170,24 +171,24 @@ module _ (h : Head) (s b : List ℕ) (o : ℕ) (eo : o ≡ beyond (modeOf (h .mo
           pub sub-deep : r ≡ true → 64 ≤ d → viewOut (record { answer = 7; head = h }) s b ≡ step (view h s b) (sub f)
           sub-deep p g = inner (sub f) _ (rw (← is-ready, p, deep, le-leb 64 d g))
 
-          pub sub-done : r ≡ true → length s ≡ 64 → d < 64 → (v : ℕ) → entryOf v ≡ outer (h .flags) (h .margin)
-              → viewOut (record { answer = 0; head = record { mode = h .mode; flags = f; margin = h .margin; depth = d + 1 } }) (set s d v) b ≡ step (view h s b) (sub f)
-          sub-done p l g v ev = inner (sub f) _ (rw (← is-ready, p, deep, lt-leb 64 d g, pushed v (outer (h .flags) (h .margin)) l g ev))
+          pub sub-done : r ≡ true → length s ≡ 64 → d < 64 → (v : ℕ) → entryOf v ≡ outer (flagsOf (h .flags)) (marginOf (h .margin)) → (n : ℕ) → flagsOf n ≡ f
+              → viewOut (record { answer = 0; head = record { mode = h .mode; flags = n; margin = h .margin; depth = d + 1 } }) (set s d v) b ≡ step (view h s b) (sub f)
+          sub-done p l g v ev n en = inner (sub f) _ (rw (← is-ready, p, deep, lt-leb 64 d g, pushed v (outer (flagsOf (h .flags)) (marginOf (h .margin))) l g ev, en))
 
         module _ (v : Value) where
           pub value-wrong : r ≡ false → viewOut (record { answer = 8; head = h }) s b ≡ step (view h s b) (value v)
           value-wrong p = inner (value v) _ (rw (← is-ready, p))
 
           -- a value that suits is what its piece answers
-          pub value-done : r ≡ true → (w : Wrote) (b' : List ℕ) → putOut w b' ≡ valueOut (h .mode) b (h .flags) v
+          pub value-done : r ≡ true → (w : Wrote) (b' : List ℕ) (f : FormattingFlags) → f ≡ flagsOf (h .flags) → putOut w b' ≡ valueOut (h .mode) b f v
               → viewOut (record { answer = w .answer; head = record { mode = w .mode; flags = h .flags; margin = h .margin; depth = h .depth } }) s b' ≡ step (view h s b) (value v)
           unfolding valueOut
-          value-done p w b' ew =
+          value-done p w b' f ef ew =
               inner (value v) _ (rw (← is-ready, p)
-              (ap out (ew ∙ rw (← eo, qo)) ∙ go (hold (valueFault v) (cutIn (modeOf (h .mode)) (cutNumber v))) (putValue (devOf (h .mode) b) (h .flags) v)))
+              (ap out (rw ef at ew ∙ rw (← eo, qo)) ∙ go (hold (valueFault v) (cutIn (modeOf (h .mode)) (cutNumber v))) (putValue (devOf (h .mode) b) (flagsOf (h .flags)) v)))
             where
               out : Put → Out
-              out y = record { answer = y .answer; state = record { dev = y .dev; flags = h .flags; margin = h .margin; stack = stackOf s (depthOf (h .depth)) } }
+              out y = record { answer = y .answer; state = record { dev = y .dev; flags = flagsOf (h .flags); margin = marginOf (h .margin); stack = stackOf s (depthOf (h .depth)) } }
 
               go : (n : ℕ) (y : Put) → out (unlessFault n (devOf (h .mode) b) y) ≡ guard n (view h s b) (out y)
               go zero y = refl

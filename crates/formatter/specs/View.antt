@@ -1,9 +1,10 @@
 -- The state of the model that a formatter and the lent bytes are. Every formatter is one: nothing is damaged.
 use mathlib.Core.Bool.{cond}
 use mathlib.Core.List.{List, [], _∷_}
-use Prim.Native.Nat.{ℕ, zero, suc}
+use Prim.Native.Nat.{ℕ, zero, suc, _%_}
 use lib.Dec.{leb}
 use lib.ListN.{getD}
+use Rattle.formatting.specs.FlagsAsNumber.{flagsOf}
 use Rattle.agreement.specs.declared.Entry.{Entry}
 use Rattle.agreement.specs.Model.{State, Out}
 use Rattle.writer_backend.specs.Output.{devOf}
@@ -20,9 +21,13 @@ stackOf s (suc d) = entryOf (getD s d 0) ∷ stackOf s d
 unfoldable pub depthOf : ℕ → ℕ
 depthOf d = cond (leb d 64) d 64
 
+-- Document 01, 'A nested record': a margin is of 16 bits, and what stands above them says nothing
+abbrev pub marginOf : ℕ → ℕ
+marginOf m = m % 65536
+
 -- Document 01, 'A nested record': the formatter that a head, its stack and the lent bytes are
 abbrev pub view : Head → List ℕ → List ℕ → State
-view h s b = record { dev = devOf (h .mode) b; flags = h .flags; margin = h .margin; stack = stackOf s (depthOf (h .depth)) }
+view h s b = record { dev = devOf (h .mode) b; flags = flagsOf (h .flags); margin = marginOf (h .margin); stack = stackOf s (depthOf (h .depth)) }
 
 -- Document 01, 'Rust forms that cannot come along': what a call answers, with the stack and the bytes as they then are
 abbrev pub viewOut : HStep → List ℕ → List ℕ → Out

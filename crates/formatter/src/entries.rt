@@ -1,12 +1,12 @@
 // An open entry as a number of the stack.
 ghost use mathlib.Core.Path.{_≡_};
 ghost use Prim.Native.Nat.{_<_};
-ghost use Rattle.formatter.specs.Entries.{entryOf, kindOf, numFmtOf, hexFmtOf, isOne};
+ghost use Rattle.formatter.specs.Entries.{entryOf, kindOf};
 use agreement::Entry;
 use agreement::Kind;
-use formatting::FormattingFlags;
-use formatting::HexFormatting;
-use formatting::NumberFormatting;
+use formatting::bit;
+use formatting::flags_number;
+use formatting::flags_of;
 
 fn kind_of(n: u32) -> Kind
     ensures { λ r. ⌜ r ≡ kindOf n ⌝ }
@@ -23,36 +23,6 @@ fn kind_of(n: u32) -> Kind
     Kind::Set
 }
 
-fn num_fmt_of(n: u32) -> NumberFormatting
-    ensures { λ r. ⌜ r ≡ numFmtOf n ⌝ }
-{
-    if n == 0 {
-        return NumberFormatting::Decimal;
-    }
-    if n == 1 {
-        return NumberFormatting::Hexadecimal;
-    }
-    NumberFormatting::Binary
-}
-
-fn hex_fmt_of(n: u32) -> HexFormatting
-    ensures { λ r. ⌜ r ≡ hexFmtOf n ⌝ }
-{
-    if n == 0 {
-        return HexFormatting::Upper;
-    }
-    HexFormatting::Lower
-}
-
-fn is_one(n: u32) -> bool
-    ensures { λ r. ⌜ r ≡ isOne n ⌝ }
-{
-    if n == 0 {
-        return false;
-    }
-    true
-}
-
 fn kind_number(k: Kind) -> u32
     ensures { λ r. ⌜ (r < 4) × (kindOf r ≡ k) ⌝ }
 {
@@ -64,52 +34,17 @@ fn kind_number(k: Kind) -> u32
     }
 }
 
-fn num_fmt_number(b: NumberFormatting) -> u32
-    ensures { λ r. ⌜ (r < 4) × (numFmtOf r ≡ b) ⌝ }
-{
-    match b {
-        NumberFormatting::Decimal => 0,
-        NumberFormatting::Hexadecimal => 1,
-        NumberFormatting::Binary => 2,
-    }
-}
-
-fn hex_fmt_number(h: HexFormatting) -> u32
-    ensures { λ r. ⌜ (r < 2) × (hexFmtOf r ≡ h) ⌝ }
-{
-    match h {
-        HexFormatting::Upper => 0,
-        HexFormatting::Lower => 1,
-    }
-}
-
-fn bit(b: bool) -> u32
-    ensures { λ r. ⌜ (r < 2) × (isOne r ≡ b) ⌝ }
-{
-    if b {
-        return 1;
-    }
-    0
-}
-
 // The entry that a number is.
 pub fn unpack(n: u32) -> Entry
     ensures { λ r. ⌜ r ≡ entryOf n ⌝ }
 {
     if n % 2 == 0 {
         let held = n / 16 % 256;
-        return Entry::Builder(kind_of(n / 2 % 4), is_one(n / 8 % 2), held as u8);
+        return Entry::Builder(kind_of(n / 2 % 4), n / 8 % 2 == 1, held as u8);
     }
-    let num_fmt = num_fmt_of(n / 2 % 4);
-    let hex_fmt = hex_fmt_of(n / 8 % 2);
-    let is_alternate = is_one(n / 16 % 2);
+    let flags = n / 2 % 16;
     let margin = n / 32 % 65536;
-    let flags = FormattingFlags {
-        num_fmt,
-        hex_fmt,
-        is_alternate,
-    };
-    Entry::Outer(flags, margin as u16)
+    Entry::Outer(flags_of(flags as u64), margin as u16)
 }
 
 // A number that is an entry.
@@ -119,18 +54,14 @@ pub fn pack(e: Entry) -> u32
     match e {
         Entry::Builder(k, has, held) => {
             let a = kind_number(k);
-            let b = bit(has);
+            let b = bit(has) as u32;
             let h = held as u32;
             2 * a + 8 * b + 16 * h
         }
         Entry::Outer(f, m) => {
-            let num_fmt = f.num_fmt;
-            let hex_fmt = f.hex_fmt;
-            let a = num_fmt_number(num_fmt);
-            let b = hex_fmt_number(hex_fmt);
-            let d = bit(f.is_alternate);
+            let a = flags_number(f) as u32;
             let w = m as u32;
-            1 + 2 * a + 8 * b + 16 * d + 32 * w
+            1 + 2 * a + 32 * w
         }
     }
 }

@@ -1,20 +1,24 @@
 // The calls of a run on the small part of a formatter, its stack of open entries and the buffer,
 // each lent: what a call does not touch is not copied.
 ghost use mathlib.Core.Path.{_≡_};
-ghost use mathlib.Core.List.{[]};
-ghost use Prim.Native.Nat.{_-_, _≤_, _<_};
+ghost use mathlib.Core.List.{List};
+ghost use Prim.Native.Nat.{ℕ, _-_, _≤_, _<_};
 ghost use lib.ListN.{length, getD};
+ghost use Rattle.formatting.specs.FlagsAsNumber.{flagsOf};
 ghost use Rattle.agreement.specs.Call.{openFault, nameOf, opens, place, value, finish, sub, endsub};
-ghost use Rattle.agreement.specs.Model.{step, readyTop};
+ghost use Rattle.agreement.specs.Model.{step, readyTop, start};
+ghost use Rattle.writer_backend.specs.Output.{modeOf};
 ghost use Rattle.writer_backend.specs.Pieces.{placeOf};
 ghost use Rattle.writer_backend.specs.Values.{valueOf};
 ghost use Rattle.formatter.specs.Entries.{entryOf};
-ghost use Rattle.formatter.specs.View.{stackOf, depthOf, view, viewOut};
+ghost use Rattle.formatter.specs.View.{stackOf, depthOf, marginOf, view, viewOut};
 use crate::entries::pack;
 use crate::entries::unpack;
 use agreement::Entry;
 use agreement::Kind;
 use formatting::FormattingFlags;
+use formatting::flags_number;
+use formatting::flags_of;
 use writer_backend::PVariant;
 use writer_backend::Spot;
 use writer_backend::WriterBackend;
@@ -27,13 +31,41 @@ use writer_backend::place_pieces;
 use writer_backend::put_name;
 use writer_backend::put_value;
 
-// A formatter without its stack: where the text goes, the flags in force, the margin, and how many
-// entries are open.
+// A formatter without its stack: where the text goes, the number of the flags in force, the margin,
+// and how many entries are open. It is whole words, which the compiler keeps apart in registers.
 pub struct Head {
     pub mode: WriterBackend,
-    pub flags: FormattingFlags,
-    pub margin: u16,
+    pub flags: u64,
+    pub margin: u64,
     pub depth: usize,
+}
+
+impl Head {
+    // A fresh formatter: nothing open, margin 0.
+    pub fn new(mode: WriterBackend, flags: FormattingFlags) -> Head
+        ensures { λ r. ⌜ ((s b : List ℕ) → view r s b ≡ start (modeOf mode) b flags) ⌝ }
+    {
+        Head {
+            mode,
+            flags: flags_number(flags),
+            margin: 0,
+            depth: 0,
+        }
+    }
+
+    // The spaces before a field in alternate form.
+    pub fn margin(self) -> u16
+        ensures { λ r. ⌜ r ≡ marginOf (self .margin) ⌝ }
+    {
+        (self.margin % 65536) as u16
+    }
+
+    // The flags in force.
+    pub fn flags(self) -> FormattingFlags
+        ensures { λ r. ⌜ r ≡ flagsOf (self .flags) ⌝ }
+    {
+        flags_of(self.flags)
+    }
 }
 
 // What a call answers, by document 01's number, and the formatter then.
@@ -104,8 +136,8 @@ pub fn place_at(h: Head, stack: &mut [u32; 64], buf: &mut [u8], p: Spot, name: &
                     head: h,
                 };
             }
-            let flags = h.flags;
-            let margin = h.margin;
+            let flags = h.flags();
+            let margin = h.margin();
             let t = Wrote { answer: held, mode };
             let w = place_pieces(t, buf, k, has, flags.is_alternate, margin as usize, p, name);
             stack[i] = pack(Entry::Builder(k, true, w.answer));
@@ -114,8 +146,8 @@ pub fn place_at(h: Head, stack: &mut [u32; 64], buf: &mut [u8], p: Spot, name: &
                 answer: 0,
                 head: Head {
                     mode: after,
-                    flags,
-                    margin,
+                    flags: h.flags,
+                    margin: h.margin,
                     depth: d,
                 },
             }
@@ -149,28 +181,27 @@ pub fn finish_at(h: Head, stack: &mut [u32; 64], buf: &mut [u8]) -> HStep
     match e {
         Entry::Outer(_, _) => HStep { answer: 8, head: h },
         Entry::Builder(k, has, held) => {
-            let flags = h.flags;
-            let margin = h.margin;
             if held != 0 {
                 return HStep {
                     answer: held,
                     head: Head {
                         mode,
-                        flags,
-                        margin,
+                        flags: h.flags,
+                        margin: h.margin,
                         depth: i,
                     },
                 };
             }
-            let low = lower(margin);
+            let flags = h.flags();
+            let low = lower(h.margin());
             let w = close(mode, buf, k, has, flags.is_alternate, low as usize);
             let after = w.mode;
             HStep {
                 answer: w.answer,
                 head: Head {
                     mode: after,
-                    flags,
-                    margin: low,
+                    flags: h.flags,
+                    margin: low as u64,
                     depth: i,
                 },
             }
@@ -210,7 +241,7 @@ pub fn open_at(h: Head, stack: &mut [u32; 64], buf: &mut [u8], k: Kind, name: &[
         };
     }
     let d = depth_of(h.depth);
-    let margin = h.margin;
+    let margin = h.margin();
     let fault = open_fault(stack, d, margin, k, name);
     if fault != 0 {
         return HStep {
@@ -220,14 +251,13 @@ pub fn open_at(h: Head, stack: &mut [u32; 64], buf: &mut [u8], k: Kind, name: &[
     }
     let w = put_name(mode, buf, k, name);
     stack[d] = pack(Entry::Builder(k, false, w.answer));
-    let flags = h.flags;
     let after = w.mode;
     HStep {
         answer: 0,
         head: Head {
             mode: after,
-            flags,
-            margin: margin + 4,
+            flags: h.flags,
+            margin: (margin + 4) as u64,
             depth: d + 1,
         },
     }
@@ -251,15 +281,15 @@ pub fn sub_at(h: Head, stack: &mut [u32; 64], buf: &[u8], g: FormattingFlags) ->
     if 64 <= d {
         return HStep { answer: 7, head: h };
     }
-    let flags = h.flags;
-    let margin = h.margin;
+    let flags = h.flags();
+    let margin = h.margin();
     stack[d] = pack(Entry::Outer(flags, margin));
     HStep {
         answer: 0,
         head: Head {
             mode,
-            flags: g,
-            margin,
+            flags: flags_number(g),
+            margin: h.margin,
             depth: d + 1,
         },
     }
@@ -288,8 +318,8 @@ pub fn endsub_at(h: Head, stack: &[u32; 64], buf: &[u8]) -> HStep
             answer: 0,
             head: Head {
                 mode,
-                flags,
-                margin,
+                flags: flags_number(flags),
+                margin: margin as u64,
                 depth: i,
             },
         },
@@ -311,14 +341,13 @@ pub fn value_at(h: Head, stack: &[u32; 64], buf: &mut [u8], v: PVariant, s: &[u8
     if !ready(stack, depth_of(h.depth)) {
         return HStep { answer: 8, head: h };
     }
-    let flags = h.flags;
-    let w = put_value(mode, flags, buf, v, s);
+    let w = put_value(mode, h.flags(), buf, v, s);
     let after = w.mode;
     HStep {
         answer: w.answer,
         head: Head {
             mode: after,
-            flags,
+            flags: h.flags,
             margin: h.margin,
             depth: h.depth,
         },

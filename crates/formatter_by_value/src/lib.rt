@@ -49,12 +49,7 @@ impl Formatter {
             number: 0,
         };
         Formatter {
-            head: Head {
-                mode,
-                flags,
-                margin: 0,
-                depth: 0,
-            },
+            head: Head::new(mode, flags),
             stack: [0u32; 64],
         }
     }
@@ -68,12 +63,7 @@ impl Formatter {
             number: at,
         };
         let fmt = Formatter {
-            head: Head {
-                mode,
-                flags,
-                margin: 0,
-                depth: 0,
-            },
+            head: Head::new(mode, flags),
             stack: [0u32; 64],
         };
         if buf.len() < at {
@@ -87,7 +77,7 @@ impl Formatter {
         ensures { λ r. ⌜ ((b : List ℕ) → r ≡ viewF self b .flags) ⌝ }
     {
         let head = self.head;
-        head.flags
+        head.flags()
     }
 
     // The spaces before a field in alternate form.
@@ -95,7 +85,7 @@ impl Formatter {
         ensures { λ r. ⌜ ((b : List ℕ) → r ≡ viewF self b .margin) ⌝ }
     {
         let head = self.head;
-        head.margin
+        head.margin()
     }
 
     pub fn debug_struct(self, buf: &mut [u8], name: &[u8]) -> FStep

@@ -1,3 +1,4 @@
 pub mod Flags
+pub mod FlagsAsNumber
 pub mod Hex
 pub mod Escape

@@ -1,6 +1,7 @@
 // How numbers and quoted text are formatted (formatting.rs).
 mod escaping;
 mod flags;
+mod flags_as_number;
 
 pub use escaping::Escape;
 pub use escaping::escape_of;
@@ -10,3 +11,6 @@ pub use escaping::is_escaped;
 pub use flags::FormattingFlags;
 pub use flags::HexFormatting;
 pub use flags::NumberFormatting;
+pub use flags_as_number::bit;
+pub use flags_as_number::flags_number;
+pub use flags_as_number::flags_of;

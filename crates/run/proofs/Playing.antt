@@ -6,12 +6,8 @@ use Prim.Native.Nat.{ℕ, suc, _+_, _≤_, _<_}
 use native.Mathlib.Omega.{arith}
 use lib.ListN.{length, drop, getD}
 use lib.Seq.{drop-cons}
-use Rattle.formatting.specs.declared.flags.FormattingFlags.{FormattingFlags}
 use Rattle.agreement.specs.Call.{Call}
-use Rattle.agreement.specs.Model.{State, Out, hold, start}
-use Rattle.writer_backend.specs.declared.pieces.WriterBackend.{WriterBackend}
-use Rattle.writer_backend.specs.Output.{modeOf}
-use Rattle.formatter.specs.View.{depthOf, view}
+use Rattle.agreement.specs.Model.{State, Out, hold}
 use Rattle.encoded_call.specs.Encoding.{callAt, decode, stepOr}
 use Rattle.run.specs.Played.{playFrom}
 
@@ -34,11 +30,6 @@ decode-end (o ∷ i ∷ []) t h = refl
 decode-end (o ∷ i ∷ n ∷ []) t h = refl
 decode-end (o ∷ i ∷ n ∷ a ∷ []) t h = refl
 decode-end (o ∷ i ∷ n ∷ a ∷ b ∷ l) t h = absurd (omega arith)
-
--- at the start nothing is open
-pub view-start : (w : WriterBackend) (f : FormattingFlags) (s b : List ℕ) → view (record { mode = w; flags = f; margin = 0; depth = 0 }) s b ≡ start (modeOf w) b f
-unfolding depthOf
-view-start w f s b = refl
 
 -- one call, and the rest from the state that it leaves
 pub play-next : (a : ℕ) (F : State) (c : Option Call) (cs : List (Option Call)) (o : Out) (r : ℕ) → o ≡ stepOr F c → r ≡ hold a (o .answer) → playFrom r (o .state) cs ≡ playFrom a F (c ∷ cs)

@@ -36,12 +36,7 @@ fn play(
     ensures { λ r. ⌜ record { first = r .first; dev = devOf (r .mode) (now (buf .exit)) } ≡ playFrom (beyond (modeOf mode) (now (buf .entry))) (start (modeOf mode) (now (buf .entry)) flags) (decode (now (calls .entry)) (now (text .entry))) ⌝ }
 {
     let mut stack = [0u32; 64];
-    let mut head = Head {
-        mode,
-        flags,
-        margin: 0,
-        depth: 0,
-    };
+    let mut head = Head::new(mode, flags);
     let over = past(mode, buf);
     let mut refusal: u8 = over;
     let mut i = 0;

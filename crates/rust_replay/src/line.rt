@@ -1,6 +1,6 @@
 // A line read and replayed.
 use check::same;
-use encoded_call::flags_at;
+use formatting::flags_of;
 use run::Ran;
 use run::count_run;
 use run::write_run;
@@ -148,8 +148,8 @@ fn plays(
     fill(buf);
     let first = decimal(s, from);
     let total = decimal(s, first.at);
-    let counted = count_run(flags_at(flags), words, text);
-    let written = write_run(flags_at(flags), buf, at, words, text);
+    let counted = count_run(flags_of(flags), words, text);
+    let written = write_run(flags_of(flags), buf, at, words, text);
     is_end(counted, first.value, total.value) && is_written(s, total.at, written, buf)
 }
 

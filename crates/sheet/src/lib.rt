@@ -53,19 +53,10 @@ pub fn fresh(at: usize, flags: FormattingFlags) -> Sheet
         counting: 0,
         number: at,
     };
-    let counted = Head {
-        mode: counting,
-        flags,
-        margin: 0,
-        depth: 0,
-    };
-    let written = Head {
-        mode: writing,
-        flags,
-        margin: 0,
-        depth: 0,
-    };
-    Sheet { counted, written }
+    Sheet {
+        counted: Head::new(counting, flags),
+        written: Head::new(writing, flags),
+    }
 }
 
 fn is_call(op: Op) -> bool

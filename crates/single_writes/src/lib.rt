@@ -10,13 +10,13 @@ ghost use Rattle.str_writer.specs.Value.{integer, char, str, ascii, repeated, d
 ghost use Rattle.str_writer.specs.Write.{outcome, write};
 ghost use Rattle.str_writer.specs.Truncate.{truncated, truncatedUtf8};
 ghost use Rattle.agreement.specs.Model.{to, wrote, writing, counting};
-ghost use Rattle.encoded_call.specs.Encoding.{flagsAt};
+ghost use Rattle.formatting.specs.FlagsAsNumber.{flagsOf};
 ghost use Rattle.writer_backend.specs.Output.{countIn};
 ghost use Rattle.writer_backend.specs.Values.{valueOut};
 use char_encoding::char_debug_len;
 use char_encoding::char_display_len;
 use char_encoding::is_char;
-use encoded_call::flags_at;
+use formatting::flags_of;
 use integer_writes::write_i8_debug;
 use integer_writes::write_i8_display;
 use integer_writes::write_i16_debug;
@@ -195,9 +195,9 @@ pub extern "C" fn single_write_u8_display(buf: &mut [u8], cursor: &mut usize, x:
 
 #[no_mangle]
 pub extern "C" fn single_write_u8_debug(buf: &mut [u8], cursor: &mut usize, x: u8, flags: u64) -> u8
-    ensures { λ r. ⌜ to (writing (now (cursor .exit))) (now (buf .exit)) r ≡ wrote (write (flagsAt flags) (now (buf .entry)) (now (cursor .entry)) (integer debug 8 (pos x))) ⌝ }
+    ensures { λ r. ⌜ to (writing (now (cursor .exit))) (now (buf .exit)) r ≡ wrote (write (flagsOf flags) (now (buf .entry)) (now (cursor .entry)) (integer debug 8 (pos x))) ⌝ }
 {
-    let w = write_u8_debug(buf, *cursor, x, flags_at(flags));
+    let w = write_u8_debug(buf, *cursor, x, flags_of(flags));
     answered(cursor, w)
 }
 
@@ -216,9 +216,9 @@ pub extern "C" fn single_write_u16_debug(
     x: u16,
     flags: u64,
 ) -> u8
-    ensures { λ r. ⌜ to (writing (now (cursor .exit))) (now (buf .exit)) r ≡ wrote (write (flagsAt flags) (now (buf .entry)) (now (cursor .entry)) (integer debug 16 (pos x))) ⌝ }
+    ensures { λ r. ⌜ to (writing (now (cursor .exit))) (now (buf .exit)) r ≡ wrote (write (flagsOf flags) (now (buf .entry)) (now (cursor .entry)) (integer debug 16 (pos x))) ⌝ }
 {
-    let w = write_u16_debug(buf, *cursor, x, flags_at(flags));
+    let w = write_u16_debug(buf, *cursor, x, flags_of(flags));
     answered(cursor, w)
 }
 
@@ -237,9 +237,9 @@ pub extern "C" fn single_write_u32_debug(
     x: u32,
     flags: u64,
 ) -> u8
-    ensures { λ r. ⌜ to (writing (now (cursor .exit))) (now (buf .exit)) r ≡ wrote (write (flagsAt flags) (now (buf .entry)) (now (cursor .entry)) (integer debug 32 (pos x))) ⌝ }
+    ensures { λ r. ⌜ to (writing (now (cursor .exit))) (now (buf .exit)) r ≡ wrote (write (flagsOf flags) (now (buf .entry)) (now (cursor .entry)) (integer debug 32 (pos x))) ⌝ }
 {
-    let w = write_u32_debug(buf, *cursor, x, flags_at(flags));
+    let w = write_u32_debug(buf, *cursor, x, flags_of(flags));
     answered(cursor, w)
 }
 
@@ -258,9 +258,9 @@ pub extern "C" fn single_write_u64_debug(
     x: u64,
     flags: u64,
 ) -> u8
-    ensures { λ r. ⌜ to (writing (now (cursor .exit))) (now (buf .exit)) r ≡ wrote (write (flagsAt flags) (now (buf .entry)) (now (cursor .entry)) (integer debug 64 (pos x))) ⌝ }
+    ensures { λ r. ⌜ to (writing (now (cursor .exit))) (now (buf .exit)) r ≡ wrote (write (flagsOf flags) (now (buf .entry)) (now (cursor .entry)) (integer debug 64 (pos x))) ⌝ }
 {
-    let w = write_u64_debug(buf, *cursor, x, flags_at(flags));
+    let w = write_u64_debug(buf, *cursor, x, flags_of(flags));
     answered(cursor, w)
 }
 
@@ -274,9 +274,9 @@ pub extern "C" fn single_write_i8_display(buf: &mut [u8], cursor: &mut usize, x:
 
 #[no_mangle]
 pub extern "C" fn single_write_i8_debug(buf: &mut [u8], cursor: &mut usize, x: i8, flags: u64) -> u8
-    ensures { λ r. ⌜ to (writing (now (cursor .exit))) (now (buf .exit)) r ≡ wrote (write (flagsAt flags) (now (buf .entry)) (now (cursor .entry)) (integer debug 8 x)) ⌝ }
+    ensures { λ r. ⌜ to (writing (now (cursor .exit))) (now (buf .exit)) r ≡ wrote (write (flagsOf flags) (now (buf .entry)) (now (cursor .entry)) (integer debug 8 x)) ⌝ }
 {
-    let w = write_i8_debug(buf, *cursor, x, flags_at(flags));
+    let w = write_i8_debug(buf, *cursor, x, flags_of(flags));
     answered(cursor, w)
 }
 
@@ -295,9 +295,9 @@ pub extern "C" fn single_write_i16_debug(
     x: i16,
     flags: u64,
 ) -> u8
-    ensures { λ r. ⌜ to (writing (now (cursor .exit))) (now (buf .exit)) r ≡ wrote (write (flagsAt flags) (now (buf .entry)) (now (cursor .entry)) (integer debug 16 x)) ⌝ }
+    ensures { λ r. ⌜ to (writing (now (cursor .exit))) (now (buf .exit)) r ≡ wrote (write (flagsOf flags) (now (buf .entry)) (now (cursor .entry)) (integer debug 16 x)) ⌝ }
 {
-    let w = write_i16_debug(buf, *cursor, x, flags_at(flags));
+    let w = write_i16_debug(buf, *cursor, x, flags_of(flags));
     answered(cursor, w)
 }
 
@@ -316,9 +316,9 @@ pub extern "C" fn single_write_i32_debug(
     x: i32,
     flags: u64,
 ) -> u8
-    ensures { λ r. ⌜ to (writing (now (cursor .exit))) (now (buf .exit)) r ≡ wrote (write (flagsAt flags) (now (buf .entry)) (now (cursor .entry)) (integer debug 32 x)) ⌝ }
+    ensures { λ r. ⌜ to (writing (now (cursor .exit))) (now (buf .exit)) r ≡ wrote (write (flagsOf flags) (now (buf .entry)) (now (cursor .entry)) (integer debug 32 x)) ⌝ }
 {
-    let w = write_i32_debug(buf, *cursor, x, flags_at(flags));
+    let w = write_i32_debug(buf, *cursor, x, flags_of(flags));
     answered(cursor, w)
 }
 
@@ -337,9 +337,9 @@ pub extern "C" fn single_write_i64_debug(
     x: i64,
     flags: u64,
 ) -> u8
-    ensures { λ r. ⌜ to (writing (now (cursor .exit))) (now (buf .exit)) r ≡ wrote (write (flagsAt flags) (now (buf .entry)) (now (cursor .entry)) (integer debug 64 x)) ⌝ }
+    ensures { λ r. ⌜ to (writing (now (cursor .exit))) (now (buf .exit)) r ≡ wrote (write (flagsOf flags) (now (buf .entry)) (now (cursor .entry)) (integer debug 64 x)) ⌝ }
 {
-    let w = write_i64_debug(buf, *cursor, x, flags_at(flags));
+    let w = write_i64_debug(buf, *cursor, x, flags_of(flags));
     answered(cursor, w)
 }
 
@@ -379,9 +379,9 @@ pub extern "C" fn single_count_u64_display(total: &mut usize, x: u64) -> u8
 
 #[no_mangle]
 pub extern "C" fn single_count_u64_debug(total: &mut usize, x: u64, flags: u64) -> u8
-    ensures { λ r. ⌜ to (counting (now (total .exit))) [] r ≡ valueOut (record { counting = 1; number = now (total .entry) }) [] (flagsAt flags) (integer debug 64 (pos x)) ⌝ }
+    ensures { λ r. ⌜ to (counting (now (total .exit))) [] r ≡ valueOut (record { counting = 1; number = now (total .entry) }) [] (flagsOf flags) (integer debug 64 (pos x)) ⌝ }
 {
-    add(total, compute_debug_len_u64(x, flags_at(flags)))
+    add(total, compute_debug_len_u64(x, flags_of(flags)))
 }
 
 #[no_mangle]
@@ -393,9 +393,9 @@ pub extern "C" fn single_count_i64_display(total: &mut usize, x: i64) -> u8
 
 #[no_mangle]
 pub extern "C" fn single_count_i64_debug(total: &mut usize, x: i64, flags: u64) -> u8
-    ensures { λ r. ⌜ to (counting (now (total .exit))) [] r ≡ valueOut (record { counting = 1; number = now (total .entry) }) [] (flagsAt flags) (integer debug 64 x) ⌝ }
+    ensures { λ r. ⌜ to (counting (now (total .exit))) [] r ≡ valueOut (record { counting = 1; number = now (total .entry) }) [] (flagsOf flags) (integer debug 64 x) ⌝ }
 {
-    add(total, compute_debug_len_i64(x, flags_at(flags)))
+    add(total, compute_debug_len_i64(x, flags_of(flags)))
 }
 
 #[no_mangle]

@@ -5,19 +5,20 @@
 ghost use mathlib.Core.Path.{_≡_};
 ghost use mathlib.Core.List.{[]};
 ghost use Rattle.agreement.specs.Model.{start, counting, writing, beyond};
-ghost use Rattle.encoded_call.specs.Encoding.{decode, flagsAt};
+ghost use Rattle.formatting.specs.FlagsAsNumber.{flagsOf};
+ghost use Rattle.encoded_call.specs.Encoding.{decode};
 ghost use Rattle.run.specs.Played.{Played, playFrom, CountAgrees, WriteAgrees};
-use encoded_call::flags_at;
+use formatting::flags_of;
 use run::count_run;
 use run::write_run;
 
 // Counts a run: its total is left in total.
 #[no_mangle]
 pub extern "C" fn table_text_count(flags: u64, calls: &[u64], text: &[u8], total: &mut usize) -> u8
-    ensures { λ r. ⌜ _≡_ {A = Played} (record { first = r; dev = record { mode = counting (now (total .exit)); bytes = [] } }) (playFrom 0 (start (counting 0) [] (flagsAt flags)) (decode (now (calls .entry)) (now (text .entry)))) ⌝ }
-    ensures { λ r. ⌜ CountAgrees (flagsAt flags) (decode (now (calls .entry)) (now (text .entry))) (record { first = r; number = now (total .exit) }) ⌝ }
+    ensures { λ r. ⌜ _≡_ {A = Played} (record { first = r; dev = record { mode = counting (now (total .exit)); bytes = [] } }) (playFrom 0 (start (counting 0) [] (flagsOf flags)) (decode (now (calls .entry)) (now (text .entry)))) ⌝ }
+    ensures { λ r. ⌜ CountAgrees (flagsOf flags) (decode (now (calls .entry)) (now (text .entry))) (record { first = r; number = now (total .exit) }) ⌝ }
 {
-    let r = count_run(flags_at(flags), calls, text);
+    let r = count_run(flags_of(flags), calls, text);
     *total = r.number;
     r.first
 }
@@ -31,10 +32,10 @@ pub extern "C" fn table_text_write(
     calls: &[u64],
     text: &[u8],
 ) -> u8
-    ensures { λ r. ⌜ _≡_ {A = Played} (record { first = r; dev = record { mode = writing (now (cursor .exit)); bytes = now (buf .exit) } }) (playFrom (beyond (writing (now (cursor .entry))) (now (buf .entry))) (start (writing (now (cursor .entry))) (now (buf .entry)) (flagsAt flags)) (decode (now (calls .entry)) (now (text .entry)))) ⌝ }
-    ensures { λ r. ⌜ WriteAgrees (flagsAt flags) (decode (now (calls .entry)) (now (text .entry))) (now (buf .entry)) (now (cursor .entry)) (record { first = r; number = now (cursor .exit) }) (now (buf .exit)) ⌝ }
+    ensures { λ r. ⌜ _≡_ {A = Played} (record { first = r; dev = record { mode = writing (now (cursor .exit)); bytes = now (buf .exit) } }) (playFrom (beyond (writing (now (cursor .entry))) (now (buf .entry))) (start (writing (now (cursor .entry))) (now (buf .entry)) (flagsOf flags)) (decode (now (calls .entry)) (now (text .entry)))) ⌝ }
+    ensures { λ r. ⌜ WriteAgrees (flagsOf flags) (decode (now (calls .entry)) (now (text .entry))) (now (buf .entry)) (now (cursor .entry)) (record { first = r; number = now (cursor .exit) }) (now (buf .exit)) ⌝ }
 {
-    let r = write_run(flags_at(flags), buf, *cursor, calls, text);
+    let r = write_run(flags_of(flags), buf, *cursor, calls, text);
     *cursor = r.number;
     r.first
 }

@@ -44,7 +44,7 @@ returns-9 c = rw (c .before .if9 .taken, le-ltb _ _ (c .if10 .taken))
 
 returns-10 : tie.Need-returns-10
 unfolding opAt
-returns-10 c = rw (c .before .before .if9 .taken, lt-ltb _ _ (c .before .if10 .left)) (ap Sub (c .flags-at .ensures))
+returns-10 c = rw (c .before .before .if9 .taken, lt-ltb _ _ (c .before .if10 .left)) (ap Sub (c .flags-of .ensures))
 
 returns-11 : tie.Need-returns-11
 unfolding opAt

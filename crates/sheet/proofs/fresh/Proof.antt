@@ -1,11 +1,9 @@
-use mathlib.Core.Path.{refl}
-use Rattle.formatter.specs.View.{depthOf}
+use borrow.Author.Needs.{needs}
 use Rattle.sheet.proofs.fresh.Statement.{statement}
 use Rattle.sheet.proofs.fresh.Tie as tie
 
 returns : tie.Need-returns
-unfolding depthOf
-returns c = λ s t b. refl
+returns c = λ s t b. rw (c .before .new .ensures, c .new2 .ensures)
 
 pub fresh-spec : {M : Type 1} → statement M
-fresh-spec = tie.close (tie.spec returns)
+fresh-spec = tie.close (tie.spec (λ c κs. search needs) (λ c κs. search needs) returns)

@@ -4,7 +4,7 @@ use Prim.Native.Nat.{ℕ}
 use native.Mathlib.Omega.{arith}
 use mir.Syntax.{w64}
 use mir.ValLaws.{toZ-ofZ}
-use Rattle.encoded_call.specs.Encoding.{flagsAt}
+use Rattle.formatting.specs.FlagsAsNumber.{flagsOf}
 use Rattle.str_writer.specs.Value.{integer, debug, textOf}
 use Rattle.writer_backend.proofs.ValueLaws.{value-counts, integer-fine}
 use borrow.Author.Needs.{needs}
@@ -21,7 +21,7 @@ unfolding textOf
 returns c =
     let s = c .before .before .before .before in
     c .add .ensures
-    ∙ value-counts (from (s .args .total .now)) [] (flagsAt (s .args .flags)) (integer debug 64 (s .args .x)) (λ e. omega (arith, e)) (integer-fine debug 64 _) (rw (toZ-ofZ w64 (s .args .x) (s .fits .x), c .before .before .flags-at .ensures) at (c .before .compute-debug-len-i64 .ensures))
+    ∙ value-counts (from (s .args .total .now)) [] (flagsOf (s .args .flags)) (integer debug 64 (s .args .x)) (λ e. omega (arith, e)) (integer-fine debug 64 _) (rw (toZ-ofZ w64 (s .args .x) (s .fits .x), c .before .before .flags-of .ensures) at (c .before .compute-debug-len-i64 .ensures))
 
 pub single-count-i64-debug-spec : {M : Type 1} → statement M
 single-count-i64-debug-spec = tie.close (tie.spec (λ c κs. search needs) (λ c κs. search needs) (λ c κs. search needs) returns)

@@ -1,11 +1,9 @@
-use mathlib.Core.Path.{refl}
-use Rattle.formatter.specs.View.{depthOf}
+use borrow.Author.Needs.{needs}
 use Rattle.formatter_by_value.proofs.Formatter.counting.Statement.{statement}
 use Rattle.formatter_by_value.proofs.Formatter.counting.Tie as tie
 
 returns : tie.Need-returns
-unfolding depthOf
-returns c = λ b. refl
+returns c = λ b. c .new .ensures _ b
 
 pub counting-spec : {M : Type 1} → statement M
-counting-spec = tie.close (tie.spec returns)
+counting-spec = tie.close (tie.spec (λ c κs. search needs) returns)
