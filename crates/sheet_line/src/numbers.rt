@@ -11,13 +11,13 @@ ghost use Rattle.encoded_call.specs.Encoding.{callOf};
 ghost use Rattle.fields.specs.Decimal.{decimalOf, upTo};
 ghost use Rattle.sheet_line.specs.Line.{typeOf, negative, signedOf, numCall, charCall};
 use encoded_call::Op;
-use encoded_call::greatest;
 use fields::Number;
 use fields::number;
 use fields::same;
 use writer_backend::Form;
 use writer_backend::PVariant;
 use writer_backend::Width;
+use writer_backend::greatest;
 
 // The type of an integer.
 pub enum IntType {

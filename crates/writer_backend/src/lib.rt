@@ -20,5 +20,6 @@ pub use record::put_name;
 pub use value::Form;
 pub use value::PVariant;
 pub use value::Width;
+pub use value::greatest;
 pub use value::put_value;
 pub use words::Word;

@@ -117,7 +117,7 @@ fn put_signed(
 }
 
 // The greatest number of a width.
-fn greatest(width: Width) -> u64
+pub fn greatest(width: Width) -> u64
     ensures { λ r. ⌜ r + 1 ≡ 2 ^ bitsOf width ⌝ }
 {
     match width {
