@@ -22,6 +22,7 @@ use formatting::HexFormatting;
 use formatting::NumberFormatting;
 use utils::Range;
 use writer_backend::Form;
+use writer_backend::Integer;
 use writer_backend::PVariant;
 use writer_backend::Spot;
 use writer_backend::Width;
@@ -95,7 +96,7 @@ fn unsigned_at(form: Form, a: u64, b: u64) -> Op
     if greatest(width) < a {
         return Op::Nothing;
     }
-    Op::Value(PVariant::Unsigned(form, width, a))
+    Op::Value(PVariant::Int(form, Integer::Unsigned(width, a)))
 }
 
 fn integer_at(form: Form, a: u64, b: u64) -> Op
@@ -108,7 +109,7 @@ fn integer_at(form: Form, a: u64, b: u64) -> Op
     if greatest(width) < a {
         return Op::Nothing;
     }
-    Op::Value(PVariant::Signed(form, width, signed_at(width, a)))
+    Op::Value(PVariant::Int(form, Integer::Signed(width, signed_at(width, a))))
 }
 
 // The signed integer whose two's complement at a width is a.

@@ -18,6 +18,7 @@ pub use record::place_fault;
 pub use record::place_pieces;
 pub use record::put_name;
 pub use value::Form;
+pub use value::Integer;
 pub use value::PVariant;
 pub use value::Width;
 pub use value::greatest;
