@@ -17,7 +17,8 @@ use Rattle.writer_backend.specs.declared.value.Form.{Form}
 use Rattle.writer_backend.specs.declared.value.Form.the-variants.{Display, Debug}
 use Rattle.writer_backend.specs.declared.value.Width.{Width}
 use Rattle.writer_backend.specs.declared.value.Width.the-variants.{W8, W16, W32, W64}
-use Rattle.writer_backend.specs.declared.value.PVariant.the-variants.{Unsigned, Signed, Char, Str, Ascii, Repeated}
+use Rattle.writer_backend.specs.declared.value.Integer.the-variants.{Unsigned, Signed}
+use Rattle.writer_backend.specs.declared.value.PVariant.the-variants.{Int, Char, Str, Ascii, Repeated}
 use Rattle.writer_backend.specs.Pieces.{placeOf}
 use Rattle.writer_backend.specs.Values.{bitsOf, valueOf}
 use Rattle.encoded_call.specs.declared.Op.{Op}
@@ -36,11 +37,11 @@ signedAt k a = cond (ltb a (2 ^ (k - 1))) (pos a) (negsuc (2 ^ k - 1 - a))
 
 -- an integer of a width: a is its bits, and more bits than the width has are no call
 abbrev pub unsignedAt : Form → ℕ → ℕ → Op
-unsignedAt m a b = cond (ltb b 4) (cond (ltb a (2 ^ bitsOf (widthAt b))) (Value (Unsigned m (widthAt b) a)) Nothing) Nothing
+unsignedAt m a b = cond (ltb b 4) (cond (ltb a (2 ^ bitsOf (widthAt b))) (Value (Int m (Unsigned (widthAt b) a))) Nothing) Nothing
 
 -- the same of a signed integer
 abbrev pub integerAt : Form → ℕ → ℕ → Op
-integerAt m a b = cond (ltb b 4) (cond (ltb a (2 ^ bitsOf (widthAt b))) (Value (Signed m (widthAt b) (signedAt (bitsOf (widthAt b)) a))) Nothing) Nothing
+integerAt m a b = cond (ltb b 4) (cond (ltb a (2 ^ bitsOf (widthAt b))) (Value (Int m (Signed (widthAt b) (signedAt (bitsOf (widthAt b)) a)))) Nothing) Nothing
 
 -- a character's code; one of more than 32 bits is no call
 abbrev pub charAt : Form → ℕ → Op

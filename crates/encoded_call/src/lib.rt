@@ -3,7 +3,7 @@
 ghost use mathlib.Core.Path.{_≡_};
 ghost use mathlib.Core.List.{List};
 ghost use mathlib.Core.Option.{none};
-ghost use Prim.Native.Nat.{ℕ, _+_, _^_, _<_};
+ghost use Prim.Native.Nat.{ℕ, _^_, _<_};
 ghost use lib.ListN.{getD};
 ghost use Rattle.formatter.specs.View.{view, viewOut};
 ghost use Rattle.writer_backend.specs.Values.{bitsOf};
@@ -21,9 +21,11 @@ use formatting::FormattingFlags;
 use formatting::flags_of;
 use utils::Range;
 use writer_backend::Form;
+use writer_backend::Integer;
 use writer_backend::PVariant;
 use writer_backend::Spot;
 use writer_backend::Width;
+use writer_backend::greatest;
 use writer_backend::past;
 
 // What a call's first word asks for.
@@ -52,18 +54,6 @@ fn width_at(n: u64) -> Width
     Width::W64
 }
 
-// The greatest number of a width.
-pub fn greatest(width: Width) -> u64
-    ensures { λ r. ⌜ r + 1 ≡ 2 ^ bitsOf width ⌝ }
-{
-    match width {
-        Width::W8 => 255,
-        Width::W16 => 65535,
-        Width::W32 => 4294967295,
-        Width::W64 => 18446744073709551615,
-    }
-}
-
 fn unsigned_at(form: Form, a: u64, b: u64) -> Op
     ensures { λ r. ⌜ r ≡ unsignedAt form a b ⌝ }
 {
@@ -74,7 +64,7 @@ fn unsigned_at(form: Form, a: u64, b: u64) -> Op
     if greatest(width) < a {
         return Op::Nothing;
     }
-    Op::Value(PVariant::Unsigned(form, width, a))
+    Op::Value(PVariant::Int(form, Integer::Unsigned(width, a)))
 }
 
 fn integer_at(form: Form, a: u64, b: u64) -> Op
@@ -87,7 +77,7 @@ fn integer_at(form: Form, a: u64, b: u64) -> Op
     if greatest(width) < a {
         return Op::Nothing;
     }
-    Op::Value(PVariant::Signed(form, width, signed_at(width, a)))
+    Op::Value(PVariant::Int(form, Integer::Signed(width, signed_at(width, a))))
 }
 
 // The signed integer whose two's complement at a width is a.

@@ -23,6 +23,7 @@ use formatter::value_at;
 use formatting::FormattingFlags;
 use utils::Range;
 use writer_backend::Form;
+use writer_backend::Integer;
 use writer_backend::PVariant;
 use writer_backend::Spot;
 use writer_backend::Width;
@@ -325,7 +326,7 @@ impl Formatter {
     {
         self.value(
             buf,
-            PVariant::Unsigned(Form::Display, Width::W8, x as u64),
+            PVariant::Int(Form::Display, Integer::Unsigned(Width::W8, x as u64)),
             b"",
         )
     }
@@ -335,7 +336,7 @@ impl Formatter {
     {
         self.value(
             buf,
-            PVariant::Unsigned(Form::Debug, Width::W8, x as u64),
+            PVariant::Int(Form::Debug, Integer::Unsigned(Width::W8, x as u64)),
             b"",
         )
     }
@@ -345,7 +346,7 @@ impl Formatter {
     {
         self.value(
             buf,
-            PVariant::Unsigned(Form::Display, Width::W16, x as u64),
+            PVariant::Int(Form::Display, Integer::Unsigned(Width::W16, x as u64)),
             b"",
         )
     }
@@ -355,7 +356,7 @@ impl Formatter {
     {
         self.value(
             buf,
-            PVariant::Unsigned(Form::Debug, Width::W16, x as u64),
+            PVariant::Int(Form::Debug, Integer::Unsigned(Width::W16, x as u64)),
             b"",
         )
     }
@@ -365,7 +366,7 @@ impl Formatter {
     {
         self.value(
             buf,
-            PVariant::Unsigned(Form::Display, Width::W32, x as u64),
+            PVariant::Int(Form::Display, Integer::Unsigned(Width::W32, x as u64)),
             b"",
         )
     }
@@ -375,7 +376,7 @@ impl Formatter {
     {
         self.value(
             buf,
-            PVariant::Unsigned(Form::Debug, Width::W32, x as u64),
+            PVariant::Int(Form::Debug, Integer::Unsigned(Width::W32, x as u64)),
             b"",
         )
     }
@@ -383,13 +384,21 @@ impl Formatter {
     pub fn write_u64_display(self, buf: &mut [u8], x: u64) -> FStep
         ensures { λ r. ⌜ viewFOut r (now (buf .exit)) ≡ step (viewF self (now (buf .entry))) (value (integer display 64 (pos x))) ⌝ }
     {
-        self.value(buf, PVariant::Unsigned(Form::Display, Width::W64, x), b"")
+        self.value(
+            buf,
+            PVariant::Int(Form::Display, Integer::Unsigned(Width::W64, x)),
+            b"",
+        )
     }
 
     pub fn write_u64_debug(self, buf: &mut [u8], x: u64) -> FStep
         ensures { λ r. ⌜ viewFOut r (now (buf .exit)) ≡ step (viewF self (now (buf .entry))) (value (integer debug 64 (pos x))) ⌝ }
     {
-        self.value(buf, PVariant::Unsigned(Form::Debug, Width::W64, x), b"")
+        self.value(
+            buf,
+            PVariant::Int(Form::Debug, Integer::Unsigned(Width::W64, x)),
+            b"",
+        )
     }
 
     pub fn write_i8_display(self, buf: &mut [u8], x: i8) -> FStep
@@ -397,7 +406,7 @@ impl Formatter {
     {
         self.value(
             buf,
-            PVariant::Signed(Form::Display, Width::W8, x as i64),
+            PVariant::Int(Form::Display, Integer::Signed(Width::W8, x as i64)),
             b"",
         )
     }
@@ -405,7 +414,11 @@ impl Formatter {
     pub fn write_i8_debug(self, buf: &mut [u8], x: i8) -> FStep
         ensures { λ r. ⌜ viewFOut r (now (buf .exit)) ≡ step (viewF self (now (buf .entry))) (value (integer debug 8 x)) ⌝ }
     {
-        self.value(buf, PVariant::Signed(Form::Debug, Width::W8, x as i64), b"")
+        self.value(
+            buf,
+            PVariant::Int(Form::Debug, Integer::Signed(Width::W8, x as i64)),
+            b"",
+        )
     }
 
     pub fn write_i16_display(self, buf: &mut [u8], x: i16) -> FStep
@@ -413,7 +426,7 @@ impl Formatter {
     {
         self.value(
             buf,
-            PVariant::Signed(Form::Display, Width::W16, x as i64),
+            PVariant::Int(Form::Display, Integer::Signed(Width::W16, x as i64)),
             b"",
         )
     }
@@ -423,7 +436,7 @@ impl Formatter {
     {
         self.value(
             buf,
-            PVariant::Signed(Form::Debug, Width::W16, x as i64),
+            PVariant::Int(Form::Debug, Integer::Signed(Width::W16, x as i64)),
             b"",
         )
     }
@@ -433,7 +446,7 @@ impl Formatter {
     {
         self.value(
             buf,
-            PVariant::Signed(Form::Display, Width::W32, x as i64),
+            PVariant::Int(Form::Display, Integer::Signed(Width::W32, x as i64)),
             b"",
         )
     }
@@ -443,7 +456,7 @@ impl Formatter {
     {
         self.value(
             buf,
-            PVariant::Signed(Form::Debug, Width::W32, x as i64),
+            PVariant::Int(Form::Debug, Integer::Signed(Width::W32, x as i64)),
             b"",
         )
     }
@@ -451,12 +464,20 @@ impl Formatter {
     pub fn write_i64_display(self, buf: &mut [u8], x: i64) -> FStep
         ensures { λ r. ⌜ viewFOut r (now (buf .exit)) ≡ step (viewF self (now (buf .entry))) (value (integer display 64 x)) ⌝ }
     {
-        self.value(buf, PVariant::Signed(Form::Display, Width::W64, x), b"")
+        self.value(
+            buf,
+            PVariant::Int(Form::Display, Integer::Signed(Width::W64, x)),
+            b"",
+        )
     }
 
     pub fn write_i64_debug(self, buf: &mut [u8], x: i64) -> FStep
         ensures { λ r. ⌜ viewFOut r (now (buf .exit)) ≡ step (viewF self (now (buf .entry))) (value (integer debug 64 x)) ⌝ }
     {
-        self.value(buf, PVariant::Signed(Form::Debug, Width::W64, x), b"")
+        self.value(
+            buf,
+            PVariant::Int(Form::Debug, Integer::Signed(Width::W64, x)),
+            b"",
+        )
     }
 }

@@ -43,7 +43,7 @@ module _ (b : List ℕ) (at : ℕ) (p d : List ℕ) {len : ℕ} (e : len ≡ len
 
 -- an integer meets no fault and leaves nothing: its text is put as a piece
 module _ (f : FormattingFlags) (b : List ℕ) (at k : ℕ) (z : ℤ) where
-  write-integer : (m : Form) → put b at (textOf f (integer m k z)) ≡ write f b at (integer m k z)
+  pub write-integer : (m : Form) → put b at (textOf f (integer m k z)) ≡ write f b at (integer m k z)
   unfolding inputFault cutFault leaves
   write-integer m =
       dite (decLt (length b) at)

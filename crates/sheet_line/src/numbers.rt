@@ -11,13 +11,14 @@ ghost use Rattle.encoded_call.specs.Encoding.{callOf};
 ghost use Rattle.fields.specs.Decimal.{decimalOf, upTo};
 ghost use Rattle.sheet_line.specs.Line.{typeOf, negative, signedOf, numCall, charCall};
 use encoded_call::Op;
-use encoded_call::greatest;
 use fields::Number;
 use fields::number;
 use fields::same;
 use writer_backend::Form;
+use writer_backend::Integer;
 use writer_backend::PVariant;
 use writer_backend::Width;
+use writer_backend::greatest;
 
 // The type of an integer.
 pub enum IntType {
@@ -60,7 +61,7 @@ fn unsigned_op(width: Width, s: &[u8]) -> Op
     ensures { λ r. ⌜ callOf r [] ≡ Option·map (λ z. value (integer debug (bitsOf width) z)) (Option·map pos (upTo (2 ^ bitsOf width - 1) (decimalOf (now (s .entry))))) ⌝ }
 {
     match number(s, greatest(width)) {
-        Number::Is(n) => Op::Value(PVariant::Unsigned(Form::Debug, width, n)),
+        Number::Is(n) => Op::Value(PVariant::Int(Form::Debug, Integer::Unsigned(width, n))),
         Number::Other => Op::Nothing,
     }
 }
@@ -74,7 +75,7 @@ fn negative_op(width: Width, m: u64) -> Op
         return Op::Nothing;
     }
     let complement = (m - 1) as i64;
-    Op::Value(PVariant::Signed(Form::Debug, width, !complement))
+    Op::Value(PVariant::Int(Form::Debug, Integer::Signed(width, !complement)))
 }
 
 fn signed_op(width: Width, s: &[u8]) -> Op
@@ -91,7 +92,7 @@ fn signed_op(width: Width, s: &[u8]) -> Op
         };
     }
     match number(s, half) {
-        Number::Is(n) => Op::Value(PVariant::Signed(Form::Debug, width, n as i64)),
+        Number::Is(n) => Op::Value(PVariant::Int(Form::Debug, Integer::Signed(width, n as i64))),
         Number::Other => Op::Nothing,
     }
 }

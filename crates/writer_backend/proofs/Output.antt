@@ -13,7 +13,7 @@ use Rattle.str_writer.proofs.Splice.{splice-nil}
 use Rattle.writer_backend.specs.declared.pieces.WriterBackend.{WriterBackend}
 use Rattle.writer_backend.specs.Output.{asMode, modeOf, devOf, countIn}
 
-counts : (t n : ℕ) → (t ≡ 0 → ⊥) → asMode t n ≡ counting n
+pub counts : (t n : ℕ) → (t ≡ 0 → ⊥) → asMode t n ≡ counting n
 counts zero n q = absurd (q refl)
 counts (suc t) n q = refl
 

@@ -1,17 +1,24 @@
 -- Pieces one after another: to the first refusal, or each tried with the first refusal held.
-use mathlib.Core.Bool.{Bool, true, false}
+use mathlib.Core.Bool.{Bool, true, false, cond}
 use mathlib.Core.Path.{_≡_, refl, sym, _∙_}
 use mathlib.Core.List.{List, [], _∷_}
-use Prim.Native.Nat.{ℕ, zero, suc}
+use Prim.Native.Nat.{ℕ, zero, suc, _+_, _≤_}
+use native.Mathlib.Nat.{add-zero, add-assoc}
+use native.Mathlib.Omega.{arith}
+use lib.ListN.{length}
+use borrow.Author.Tests.{le-ltb}
 use Rattle.agreement.specs.declared.Kind.{Kind}
 use Rattle.agreement.specs.declared.Kind.the-variants.{Struct, Tuple, List as ListKind, Set}
 use Rattle.agreement.specs.Call.{Place, suits, emptyClose, plainClose, commaLine, bracket, spaces}
 use Rattle.agreement.specs.Ledger.{separator}
-use Rattle.agreement.specs.Model.{Dev, Put, put, hold, goOn, tries, stops, closePieces, placePieces, labelPieces}
+use Rattle.agreement.specs.Model.{Dev, Put, counting, to, most, put, hold, goOn, tries, stops, closePieces, placePieces, labelPieces}
 use Rattle.writer_backend.specs.declared.record.Spot.{Spot}
 use Rattle.writer_backend.specs.declared.record.Spot.the-variants.{Field, Item}
 use Rattle.writer_backend.specs.declared.record.Spot.the-variants as spot
-use Rattle.writer_backend.specs.Pieces.{tryOn, tryAll, placeOf}
+use Rattle.writer_backend.specs.declared.pieces.WriterBackend.{WriterBackend}
+use Rattle.writer_backend.specs.Output.{modeOf}
+use Rattle.writer_backend.specs.Pieces.{tryOn, tryAll, lengthOf, marginPieces, placeOf}
+use Rattle.writer_backend.proofs.Output.{counts}
 
 pub held : (h a : ℕ) → (h ≡ 0 → ⊥) → h ≡ hold h a
 held zero a q = absurd (q refl)
@@ -79,15 +86,52 @@ suits-any Field s Set = refl
 suits-any Item s k = refl
 suits-any spot.Entry s k = refl
 
--- what goes before a field or an entry, by form
+-- what goes before a field or an entry: the separator, the margin, the label
 module _ (k : Kind) (n : ℕ) (x : Place) where
-  pub pieces-alternate : (has alt : Bool) → alt ≡ true → placePieces k has alt n x ≡ separator k has alt ∷ spaces n ∷ labelPieces x
-  pieces-alternate true alt e = rw e
-  pieces-alternate false alt e = rw e
+  pieces-by : (p : Put) (has alt : Bool) → tryAll (tryAll (tryOn p (separator k has alt)) (marginPieces alt n)) (labelPieces x) ≡ tryAll p (placePieces k has alt n x)
+  pieces-by p true true = refl
+  pieces-by p true false = refl
+  pieces-by p false true = refl
+  pieces-by p false false = refl
 
-  pub pieces-plain : (has alt : Bool) → alt ≡ false → placePieces k has alt n x ≡ separator k has alt ∷ labelPieces x
-  pieces-plain true alt e = rw e
-  pieces-plain false alt e = rw e
+  pub pieces-tried : (p : Put) (has alt : Bool) {s : List ℕ} {a b r : Put} → s ≡ separator k has alt → a ≡ tryOn p s → b ≡ tryAll a (marginPieces alt n) → r ≡ tryAll b (labelPieces x) → r ≡ tryAll p (placePieces k has alt n x)
+  pieces-tried p has alt e f g h = rw (h, g, f, e) (pieces-by p has alt)
+
+  pub pieces-length : (has alt : Bool) → lengthOf (placePieces k has alt n x) ≡ length (separator k has alt) + lengthOf (marginPieces alt n) + lengthOf (labelPieces x)
+  pieces-length true true = omega arith
+  pieces-length true false = omega arith
+  pieces-length false true = omega arith
+  pieces-length false false = omega arith
+
+-- the length of a separator: the later ones, the first of a struct, and an opening bracket by the form
+abbrev pub separatorLen : Kind → Bool → Bool → ℕ
+separatorLen k true alt = 2
+separatorLen Struct false alt = 3
+separatorLen Tuple false alt = cond alt 2 1
+separatorLen ListKind false alt = cond alt 2 1
+separatorLen Set false alt = cond alt 2 1
+
+pub separator-length : (k : Kind) (has alt : Bool) → separatorLen k has alt ≡ length (separator k has alt)
+separator-length k true true = refl
+separator-length k true false = refl
+separator-length Struct false true = refl
+separator-length Struct false false = refl
+separator-length Tuple false true = refl
+separator-length Tuple false false = refl
+separator-length ListKind false true = refl
+separator-length ListKind false false = refl
+separator-length Set false true = refl
+separator-length Set false false = refl
+
+-- pieces tried by a total that has room for them all add the sum of their lengths
+counted : (n : ℕ) (b : List ℕ) (a : ℕ) (ss : List (List ℕ)) → n + lengthOf ss ≤ most → tryAll (to (counting n) b a) ss ≡ to (counting (n + lengthOf ss)) b a
+unfolding tryOn
+counted n b a [] h = rw add-zero
+counted n b a (s ∷ ss) h = rw (le-ltb most (n + length s) (omega arith), hold-zero a, counted (n + length s) b a ss (omega arith), add-assoc)
+
+pub tries-count : (w : WriterBackend) (b : List ℕ) (a : ℕ) (ss : List (List ℕ)) → (w .counting ≡ 0 → ⊥) → {n : ℕ} → n ≡ lengthOf ss → w .number + n ≤ most
+    → to (modeOf (record { counting = w .counting; number = w .number + n })) b a ≡ tryAll (to (modeOf w) b a) ss
+tries-count w b a ss e l h = rw (counts (w .counting) (w .number) e, counts _ _ e, counted (w .number) b a ss (omega arith), l)
 
 -- pieces tried from a refusal already held are the model's, with that refusal first
 pub tried : (a : ℕ) (d : Dev) (ss : List (List ℕ)) → tryAll (record { answer = a; dev = d }) ss ≡ record { answer = hold a (tries d ss .answer); dev = tries d ss .dev }

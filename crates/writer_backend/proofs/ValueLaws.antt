@@ -3,7 +3,7 @@ use mathlib.Core.Bool.{Bool, true, false, cond, _&&_}
 use mathlib.Core.Logic.{dite}
 use mathlib.Core.Option.{Option, none, some}
 use mathlib.Core.Path.{_≡_, refl, sym}
-use mathlib.Core.List.{List, [], _∷_}
+use mathlib.Core.List.{List, [], _∷_, _++_}
 use Prim.Native.Nat.{ℕ, zero, suc, _+_, _-_, _^_, _<_}
 use native.Mathlib.Decide.{decLt}
 use native.Mathlib.Omega.{arith}
@@ -20,6 +20,8 @@ use Rattle.error.specs.declared.Answer.{Answer}
 use Rattle.error.specs.declared.Answer.the-variants.{NotOnCharBoundary, NotUtf8, NotAChar}
 use Rattle.error.specs.Answer.{numberOf}
 use Rattle.formatting.specs.declared.flags.FormattingFlags.{FormattingFlags}
+use Rattle.formatting.specs.declared.flags.NumberFormatting.{NumberFormatting}
+use Rattle.formatting.specs.declared.flags.NumberFormatting.the-variants.{Decimal, Hexadecimal, Binary}
 use Rattle.formatting.specs.Escape.{quoted}
 use Rattle.utf8.specs.Utf8.{wellFormed, isScalar}
 use Rattle.utils.specs.declared.Range.{Range}
@@ -28,16 +30,19 @@ use Rattle.ascii_str.specs.declared.AsciiStr.{AsciiStr}
 use Rattle.ascii_str.specs.declared.AsciiStr.the-variants.{Ascii, NotAsciiError}
 use Rattle.ascii_str.specs.Ascii.{asciiFrom}
 use Rattle.pwrapper.specs.declared.quoted.DebugLen.{DebugLen}
-use Rattle.pwrapper.specs.Number.{twosComplement}
+use Rattle.pwrapper.specs.Number.{decimal, displayText, twosComplement, debugIn, debugParts}
 use Rattle.pwrapper.specs.Quoted.{countOf}
-use Rattle.str_writer.specs.Value.{Form, Value, integer, char, str, ascii, repeated, textOf, asciiFault, inputFault, cutFault, leaves}
+use Rattle.str_writer.specs.Value.{Form, display, debug, Value, integer, char, str, ascii, repeated, textOf, asciiFault, inputFault, cutFault, leaves}
 use Rattle.str_writer.specs.Write.{Outcome, placed, firstOf, unless, write}
 use Rattle.str_writer.proofs.Values.{clamped-end}
 use Rattle.agreement.specs.Call.{faultNumber}
 use Rattle.agreement.specs.Model.{writing, most, hold, wrote}
 use Rattle.writer_backend.specs.declared.pieces.WriterBackend.{WriterBackend}
+use Rattle.writer_backend.specs.declared.value.Integer.{Integer}
+use Rattle.writer_backend.specs.declared.value.Integer.the-variants.{Unsigned, Signed}
+use Rattle.writer_backend.specs.declared.value.Parts.{Parts}
 use Rattle.writer_backend.specs.Output.{devOf, countIn}
-use Rattle.writer_backend.specs.Values.{unlessFault, valueOut}
+use Rattle.writer_backend.specs.Values.{bitsOf, integerOf, heededBy, textOfParts, unlessFault, valueOut}
 
 -- what a value meets is no fault, or one whose number is not 0
 data Met : Option Answer → Type 0 where
@@ -111,6 +116,22 @@ module _ (m : WriterBackend) (b : List ℕ) (f : FormattingFlags) (v : Value) wh
 pub integer-fine : (m : Form) (k : ℕ) (z : ℤ) → inputFault (integer m k z) ≡ none
 unfolding inputFault
 integer-fine m k z = refl
+
+-- what holds of every integer, of any width, holds of one by its type
+pub by-type : (P : Value → Type 0) (m : Form) → ((k : ℕ) (z : ℤ) → P (integer m k z)) → (x : Integer) → P (integerOf m x)
+by-type P m h (Unsigned w n) = h (bitsOf w) (pos n)
+by-type P m h (Signed w z) = h (bitsOf w) z
+
+-- an integer's text by the flags that it heeds: its display form is decimal, its debug form by the flags
+pub integer-text : (m : Form) (f : FormattingFlags) (k : ℕ) (z : ℤ) (p : Parts) → p .flags ≡ heededBy m f → displayText z ≡ cond (p .«is_negative») (45 ∷ []) [] ++ decimal (p .n) → twosComplement k z ≡ p .bits → textOf f (integer m k z) ≡ textOfParts p
+unfolding textOf
+integer-text display f k z p e t b = rw (e, t)
+integer-text debug f k z p e t b = rw e (by-format (f .«num_fmt»))
+  where
+    by-format : (x : NumberFormatting) → debugIn x f k z ≡ debugParts x f (p .«is_negative») (p .n) (p .bits)
+    by-format Decimal = t
+    by-format Hexadecimal = rw b
+    by-format Binary = rw b
 
 -- the length of a clamped range
 pub clamped-length : (s : List ℕ) (r q : Range) → q ≡ saturated s r → q .end - q .start ≡ length (part s r)

@@ -1,9 +1,10 @@
--- Pieces tried one after another from a refusal already held, and the place that a field or an entry is.
-use mathlib.Core.Bool.{cond}
+-- Pieces tried one after another from a refusal already held, what they add to a total, and the place that a field or an entry is.
+use mathlib.Core.Bool.{Bool, true, false, cond}
 use mathlib.Core.List.{List, [], _∷_}
-use Prim.Native.Nat.{ℕ}
+use Prim.Native.Nat.{ℕ, _+_}
+use lib.ListN.{length}
 use Rattle.agreement.specs.declared.Kind.{Kind}
-use Rattle.agreement.specs.Call.{Place, field, item, entry, suits, placeName, nameFault}
+use Rattle.agreement.specs.Call.{Place, field, item, entry, suits, placeName, nameFault, spaces}
 use Rattle.agreement.specs.Model.{Put, put, hold}
 use Rattle.writer_backend.specs.declared.record.Spot.{Spot}
 use Rattle.writer_backend.specs.declared.record.Spot.the-variants.{Field, Item}
@@ -17,6 +18,16 @@ tryOn p s = let a = put (p .dev) s in record { answer = hold (p .answer) (a .ans
 abbrev pub tryAll : Put → List (List ℕ) → Put
 tryAll p [] = p
 tryAll p (s ∷ ss) = tryAll (tryOn p s) ss
+
+-- Document 01, 'A nested record': what pieces add to the total together
+abbrev pub lengthOf : List (List ℕ) → ℕ
+lengthOf [] = 0
+lengthOf (s ∷ ss) = length s + lengthOf ss
+
+-- Document 01, 'A nested record', field or entry: in alternate form, margin spaces
+abbrev pub marginPieces : Bool → ℕ → List (List ℕ)
+marginPieces false m = []
+marginPieces true m = spaces m ∷ []
 
 -- Document 01, 'Rust forms that cannot come along': the place that a spot and a name are
 abbrev pub placeOf : Spot → List ℕ → Place

@@ -3,6 +3,8 @@ use mathlib.Core.List.{List}
 use Prim.Native.Nat.{ℕ, zero, suc}
 use lib.IntN.{pos}
 use Rattle.formatting.specs.declared.flags.FormattingFlags.{FormattingFlags}
+use Rattle.formatting.specs.declared.flags.NumberFormatting.the-variants.{Decimal}
+use Rattle.pwrapper.specs.Number.{debugParts}
 use Rattle.str_writer.specs.Value.{Form, display, debug, Value, integer, char, str, ascii, repeated}
 use Rattle.agreement.specs.Call.{valueFault, cutNumber}
 use Rattle.agreement.specs.Model.{Dev, Put, putValue, hold, cutIn, beyond}
@@ -11,8 +13,11 @@ use Rattle.writer_backend.specs.declared.value.Form as code
 use Rattle.writer_backend.specs.declared.value.Form.the-variants.{Display, Debug}
 use Rattle.writer_backend.specs.declared.value.Width.{Width}
 use Rattle.writer_backend.specs.declared.value.Width.the-variants.{W8, W16, W32, W64}
+use Rattle.writer_backend.specs.declared.value.Integer.{Integer}
+use Rattle.writer_backend.specs.declared.value.Integer.the-variants.{Unsigned, Signed}
+use Rattle.writer_backend.specs.declared.value.Parts.{Parts}
 use Rattle.writer_backend.specs.declared.value.PVariant.{PVariant}
-use Rattle.writer_backend.specs.declared.value.PVariant.the-variants.{Unsigned, Signed, Char, Str, Ascii, Repeated}
+use Rattle.writer_backend.specs.declared.value.PVariant.the-variants.{Int, Char, Str, Ascii, Repeated}
 use Rattle.writer_backend.specs.Output.{modeOf, devOf}
 
 -- Document 01, 'A nested record': display or debug
@@ -27,10 +32,23 @@ bitsOf W16 = 16
 bitsOf W32 = 32
 bitsOf W64 = 64
 
+-- Document 01, 'A number': an integer of a width, signed or not
+abbrev pub integerOf : Form → Integer → Value
+integerOf m (Unsigned w n) = integer m (bitsOf w) (pos n)
+integerOf m (Signed w x) = integer m (bitsOf w) x
+
+-- Document 01, 'A number': the display form is always decimal, the debug form follows the flags
+abbrev pub heededBy : Form → FormattingFlags → FormattingFlags
+heededBy display f = record { «num_fmt» = Decimal; «hex_fmt» = f .«hex_fmt»; «is_alternate» = f .«is_alternate» }
+heededBy debug f = f
+
+-- Document 01, 'A number': the text of a sign with an absolute value, and of the two's complement
+abbrev pub textOfParts : Parts → List ℕ
+textOfParts p = debugParts (p .flags .«num_fmt») (p .flags) (p .«is_negative») (p .n) (p .bits)
+
 -- Document 01, 'A nested record': any number, character, string, ASCII or repeated-character write, display or debug
 abbrev pub valueOf : PVariant → List ℕ → Value
-valueOf (Unsigned m w n) s = integer (formOf m) (bitsOf w) (pos n)
-valueOf (Signed m w x) s = integer (formOf m) (bitsOf w) x
+valueOf (Int m x) s = integerOf (formOf m) x
 valueOf (Char m c) s = char (formOf m) c
 valueOf (Str m r) s = str (formOf m) s r
 valueOf (Ascii m r) s = ascii (formOf m) s r

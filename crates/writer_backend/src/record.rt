@@ -1,11 +1,13 @@
 // The pieces of an opening, of a field or an entry, and of a finish.
 ghost use mathlib.Core.Path.{_≡_};
 ghost use mathlib.Core.List.{[]};
+ghost use Prim.Native.Nat.{_+_, _≤_};
+ghost use lib.ListN.{length};
 ghost use Rattle.utf8.specs.Utf8.{wellFormed};
 ghost use Rattle.agreement.specs.Call.{nameOf, placeName, suits};
 ghost use Rattle.agreement.specs.Model.{stops, tries, closePieces, placePieces, labelPieces, namePieces};
 ghost use Rattle.writer_backend.specs.Output.{devOf, putOut};
-ghost use Rattle.writer_backend.specs.Pieces.{tryAll, placeOf, placeFault};
+ghost use Rattle.writer_backend.specs.Pieces.{tryAll, lengthOf, marginPieces, placeOf, placeFault};
 use crate::pieces::WriterBackend;
 use crate::pieces::Wrote;
 use crate::pieces::put;
@@ -17,6 +19,7 @@ use crate::pieces::try_word;
 use crate::words::bracket_of;
 use crate::words::empty_close;
 use crate::words::plain_close;
+use crate::words::separator_len;
 use crate::words::separator_of;
 use agreement::Kind;
 use utf8::is_utf8;
@@ -135,23 +138,71 @@ fn label(t: Wrote, buf: &mut [u8], p: Spot, name: &[u8]) -> Wrote
     }
 }
 
-// What goes before a field or an entry, each piece tried, from what was held.
+// The margin in spaces, in alternate form only.
+fn try_margin(t: Wrote, buf: &mut [u8], alt: bool, margin: u16) -> Wrote
+    ensures { λ r. ⌜ putOut r (now (buf .exit)) ≡ tryAll (putOut t (now (buf .entry))) (marginPieces alt margin) ⌝ }
+{
+    if alt {
+        return try_spaces(t, buf, margin as usize);
+    }
+    t
+}
+
+fn margin_len(alt: bool, margin: u16) -> usize
+    ensures { λ r. ⌜ (r ≡ lengthOf (marginPieces alt margin)) × (r ≤ margin) ⌝ }
+{
+    if alt {
+        return margin as usize;
+    }
+    0
+}
+
+fn label_len(p: Spot, name: &[u8]) -> usize
+    ensures { λ r. ⌜ (r ≡ lengthOf (labelPieces (placeOf p (now (name .entry))))) × (r ≤ length (now (name .entry)) + 2) ⌝ }
+{
+    match p {
+        Spot::Field => name.len() + 2,
+        Spot::Item => 0,
+        Spot::Entry => 0,
+    }
+}
+
+// The length of all that goes before a field or an entry.
+fn place_len(k: Kind, has: bool, alt: bool, margin: u16, p: Spot, name: &[u8]) -> usize
+    ensures { λ r. ⌜ r ≡ lengthOf (placePieces k has alt margin (placeOf p (now (name .entry)))) ⌝ }
+{
+    separator_len(k, has, alt) + margin_len(alt, margin) + label_len(p, name)
+}
+
+// What goes before a field or an entry, each piece tried, from what was held. A total that has room
+// for them all takes them as one sum.
 pub fn place_pieces(
     t: Wrote,
     buf: &mut [u8],
     k: Kind,
     has: bool,
     alt: bool,
-    n: usize,
+    margin: u16,
     p: Spot,
     name: &[u8],
 ) -> Wrote
-    ensures { λ r. ⌜ putOut r (now (buf .exit)) ≡ tryAll (putOut t (now (buf .entry))) (placePieces k has alt n (placeOf p (now (name .entry)))) ⌝ }
+    ensures { λ r. ⌜ putOut r (now (buf .exit)) ≡ tryAll (putOut t (now (buf .entry))) (placePieces k has alt margin (placeOf p (now (name .entry)))) ⌝ }
 {
-    let a = try_word(t, buf, separator_of(k, has, alt));
-    if alt {
-        let b = try_spaces(a, buf, n);
-        return label(b, buf, p, name);
+    let m = t.mode;
+    if m.counting != 0 {
+        let len = place_len(k, has, alt, margin, p, name);
+        let number = m.number;
+        if len <= usize::MAX - number {
+            return Wrote {
+                answer: t.answer,
+                mode: WriterBackend {
+                    counting: m.counting,
+                    number: number + len,
+                },
+            };
+        }
     }
-    label(a, buf, p, name)
+    let a = try_word(t, buf, separator_of(k, has, alt));
+    let b = try_margin(a, buf, alt, margin);
+    label(b, buf, p, name)
 }

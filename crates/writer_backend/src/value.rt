@@ -1,16 +1,16 @@
 // A value counted or written as one piece: the text of strings is lent beside it.
 ghost use mathlib.Core.Path.{_≡_};
-ghost use mathlib.Core.Bool.{cond};
-ghost use mathlib.Core.List.{List, [], _∷_, _++_};
+ghost use mathlib.Core.List.{List};
 ghost use Prim.Native.Nat.{ℕ, _+_, _^_};
-ghost use lib.IntN.{ℤ, pos};
+ghost use lib.IntN.{ℤ};
 ghost use lib.ListN.{length};
 ghost use Rattle.formatting.specs.declared.flags.FormattingFlags as Flags;
 ghost use Rattle.utils.specs.Text.{part};
-ghost use Rattle.pwrapper.specs.Number.{decimal, debugText, displayText, twosComplement};
-ghost use Rattle.str_writer.specs.Value.{integer, char, str, ascii, repeated, display, debug, textOf, stringText};
+ghost use Rattle.pwrapper.specs.Number.{debugParts, twosComplement};
+ghost use Rattle.str_writer.specs.Value.{integer, char, str, ascii, repeated, textOf, stringText};
+ghost use Rattle.str_writer.specs.Value.{Form as ValueForm};
 ghost use Rattle.writer_backend.specs.Output.{putOut, countIn};
-ghost use Rattle.writer_backend.specs.Values.{formOf, bitsOf, valueOf, valueOut};
+ghost use Rattle.writer_backend.specs.Values.{formOf, bitsOf, heededBy, integerOf, textOfParts, valueOf, valueOut};
 use crate::pieces::WriterBackend;
 use crate::pieces::Wrote;
 use crate::pieces::add_len;
@@ -23,7 +23,6 @@ use formatting::FormattingFlags;
 use formatting::NumberFormatting;
 use integer_writes::decimal_len;
 use integer_writes::write_debug;
-use integer_writes::write_decimal;
 use pwrapper::binary_len_u64;
 use pwrapper::compute_utf8_debug_len_in_range;
 use pwrapper::hexadecimal_len_u64;
@@ -52,14 +51,28 @@ pub enum Width {
     W64,
 }
 
+// An integer by its type.
+pub enum Integer {
+    Unsigned(Width, u64),
+    Signed(Width, i64),
+}
+
 // What is written (after PVariant of pargument.rs). A string is a range of the text lent beside it.
 pub enum PVariant {
-    Unsigned(Form, Width, u64),
-    Signed(Form, Width, i64),
+    Int(Form, Integer),
     Char(Form, u32),
     Str(Form, Range),
     Ascii(Form, Range),
     Repeated(u8, usize),
+}
+
+// What the text of an integer is made of, under the flags that it heeds: a sign with an absolute
+// value in decimal, the two's complement otherwise.
+struct Parts {
+    flags: FormattingFlags,
+    is_negative: bool,
+    n: u64,
+    bits: u64,
 }
 
 // Writes or counts a value, tested in the order 9, then 2, 4 or 5, then 3 in writing, then 6 or 1.
@@ -73,8 +86,7 @@ pub fn put_value(
     ensures { λ r. ⌜ putOut r (now (buf .exit)) ≡ valueOut m (now (buf .entry)) flags (valueOf v (now (s .entry))) ⌝ }
 {
     match v {
-        PVariant::Unsigned(form, width, n) => put_unsigned(m, flags, buf, form, width, n),
-        PVariant::Signed(form, width, x) => put_signed(m, flags, buf, form, width, x),
+        PVariant::Int(form, x) => put_integer(m, buf, parts_of(form, x, flags)),
         PVariant::Char(form, c) => put_char(m, buf, form, c),
         PVariant::Str(form, range) => put_str(m, buf, form, s, range),
         PVariant::Ascii(form, range) => put_ascii(m, buf, form, s, range),
@@ -82,42 +94,43 @@ pub fn put_value(
     }
 }
 
-// An unsigned integer: its text does not depend on the width.
-fn put_unsigned(
-    m: WriterBackend,
-    flags: FormattingFlags,
-    buf: &mut [u8],
-    form: Form,
-    width: Width,
-    n: u64,
-) -> Wrote
-    ensures { λ r. ⌜ putOut r (now (buf .exit)) ≡ valueOut m (now (buf .entry)) flags (integer (formOf form) (bitsOf width) (pos n)) ⌝ }
+// The flags that an integer heeds: displayed, it is decimal.
+fn flags_for(form: Form, flags: FormattingFlags) -> FormattingFlags
+    ensures { λ r. ⌜ r ≡ heededBy (formOf form) flags ⌝ }
 {
+    let hex_fmt = flags.hex_fmt;
     match form {
-        Form::Display => put_decimal(m, buf, false, n),
-        Form::Debug => put_debug(m, flags, buf, false, n, n),
+        Form::Display => FormattingFlags {
+            num_fmt: NumberFormatting::Decimal,
+            hex_fmt,
+            is_alternate: flags.is_alternate,
+        },
+        Form::Debug => flags,
     }
 }
 
-fn put_signed(
-    m: WriterBackend,
-    flags: FormattingFlags,
-    buf: &mut [u8],
-    form: Form,
-    width: Width,
-    x: i64,
-) -> Wrote
-    ensures { λ r. ⌜ putOut r (now (buf .exit)) ≡ valueOut m (now (buf .entry)) flags (integer (formOf form) (bitsOf width) x) ⌝ }
+fn parts_of(form: Form, x: Integer, flags: FormattingFlags) -> Parts
+    ensures { λ r. ⌜ textOf flags (integerOf (formOf form) x) ≡ textOfParts r ⌝ }
 {
-    let n = unsigned_abs_i64(x);
-    match form {
-        Form::Display => put_decimal(m, buf, x < 0, n),
-        Form::Debug => put_debug(m, flags, buf, x < 0, n, bits_at(width, x)),
+    let heeded = flags_for(form, flags);
+    match x {
+        Integer::Unsigned(_, n) => Parts {
+            flags: heeded,
+            is_negative: false,
+            n,
+            bits: n,
+        },
+        Integer::Signed(width, z) => Parts {
+            flags: heeded,
+            is_negative: z < 0,
+            n: unsigned_abs_i64(z),
+            bits: bits_at(width, z),
+        },
     }
 }
 
 // The greatest number of a width.
-fn greatest(width: Width) -> u64
+pub fn greatest(width: Width) -> u64
     ensures { λ r. ⌜ r + 1 ≡ 2 ^ bitsOf width ⌝ }
 {
     match width {
@@ -143,33 +156,20 @@ fn bits_at(width: Width, x: i64) -> u64
     x as u64
 }
 
-fn put_decimal(m: WriterBackend, buf: &mut [u8], is_negative: bool, n: u64) -> Wrote
-    ensures { λ r. ⌜ ((f : Flags.FormattingFlags) (k : ℕ) (z : ℤ) → displayText z ≡ cond «is_negative» (45 ∷ []) [] ++ decimal n → putOut r (now (buf .exit)) ≡ valueOut m (now (buf .entry)) f (integer display k z)) ⌝ }
+// An integer counted or written. Its functions have one call site each: the compiler lays them into
+// the run's loop.
+fn put_integer(m: WriterBackend, buf: &mut [u8], p: Parts) -> Wrote
+    ensures { λ r. ⌜ ((f : Flags.FormattingFlags) (form : ValueForm) (k : ℕ) (z : ℤ) → textOf f (integer form k z) ≡ textOfParts p → putOut r (now (buf .exit)) ≡ valueOut m (now (buf .entry)) f (integer form k z)) ⌝ }
 {
+    let flags = p.flags;
     if m.counting != 0 {
-        return add_len(m, decimal_len(is_negative, n));
+        return add_len(m, debug_len(p.is_negative, p.n, p.bits, flags));
     }
-    from_written(write_decimal(buf, m.number, is_negative, n))
-}
-
-fn put_debug(
-    m: WriterBackend,
-    flags: FormattingFlags,
-    buf: &mut [u8],
-    is_negative: bool,
-    n: u64,
-    bits: u64,
-) -> Wrote
-    ensures { λ r. ⌜ ((k : ℕ) (z : ℤ) → displayText z ≡ cond «is_negative» (45 ∷ []) [] ++ decimal n → twosComplement k z ≡ bits → putOut r (now (buf .exit)) ≡ valueOut m (now (buf .entry)) flags (integer debug k z)) ⌝ }
-{
-    if m.counting != 0 {
-        return add_len(m, debug_len(is_negative, n, bits, flags));
-    }
-    from_written(write_debug(buf, m.number, is_negative, n, bits, flags))
+    from_written(write_debug(buf, m.number, p.is_negative, p.n, p.bits, flags))
 }
 
 fn debug_len(is_negative: bool, n: u64, bits: u64, flags: FormattingFlags) -> usize
-    ensures { λ r. ⌜ ((k : ℕ) (z : ℤ) → displayText z ≡ cond «is_negative» (45 ∷ []) [] ++ decimal n → twosComplement k z ≡ bits → r ≡ length (debugText flags k z)) ⌝ }
+    ensures { λ r. ⌜ r ≡ length (debugParts (flags .«num_fmt») flags «is_negative» n bits) ⌝ }
 {
     let num_fmt = flags.num_fmt;
     match num_fmt {

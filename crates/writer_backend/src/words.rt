@@ -1,6 +1,8 @@
 // The separators and brackets of a record: a constant text in an array of three bytes.
 ghost use mathlib.Core.Path.{_≡_};
-ghost use mathlib.Core.Bool.{true, false};
+ghost use mathlib.Core.Bool.{true, false, cond};
+ghost use Prim.Native.Nat.{_≤_};
+ghost use lib.ListN.{length};
 ghost use Rattle.agreement.specs.Call.{bracket, plainClose, emptyClose, firstSep, laterSep};
 ghost use Rattle.agreement.specs.Ledger.{separator};
 ghost use Rattle.writer_backend.specs.Words.{textOfWord};
@@ -145,6 +147,13 @@ fn alternate_first(k: Kind) -> Word
     }
 }
 
+// The length of an opening bracket, with a line feed in alternate form.
+fn bracket_len(alt: bool) -> usize
+    ensures { λ r. ⌜ (r ≡ cond alt 2 1) × (r ≤ 2) ⌝ }
+{
+    if alt { 2 } else { 1 }
+}
+
 // What stands before a field or an entry.
 pub fn separator_of(k: Kind, has: bool, alt: bool) -> Word
     ensures { λ r. ⌜ textOfWord r ≡ separator k has alt ⌝ }
@@ -156,4 +165,19 @@ pub fn separator_of(k: Kind, has: bool, alt: bool) -> Word
         return alternate_first(k);
     }
     plain_first(k)
+}
+
+// The length of that separator.
+pub fn separator_len(k: Kind, has: bool, alt: bool) -> usize
+    ensures { λ r. ⌜ (r ≡ length (separator k has alt)) × (r ≤ 3) ⌝ }
+{
+    if has {
+        return 2;
+    }
+    match k {
+        Kind::Struct => 3,
+        Kind::Tuple => bracket_len(alt),
+        Kind::List => bracket_len(alt),
+        Kind::Set => bracket_len(alt),
+    }
 }
