@@ -139,7 +139,7 @@ pub fn place_at(h: Head, stack: &mut [u32; 64], buf: &mut [u8], p: Spot, name: &
             let flags = h.flags();
             let margin = h.margin();
             let t = Wrote { answer: held, mode };
-            let w = place_pieces(t, buf, k, has, flags.is_alternate, margin as usize, p, name);
+            let w = place_pieces(t, buf, k, has, flags.is_alternate, margin, p, name);
             stack[i] = pack(Entry::Builder(k, true, w.answer));
             let after = w.mode;
             HStep {

@@ -52,4 +52,4 @@ returns-5 c =
     (c .before .before .before .before .before .before .before .before .before .before .before .before .before .before .entry-in-arg2 .given .0) (w .result) (w .last .1 .0) (c .before .pack .result) (c .before .before .before .before .before .before .before .flags .result) (c .before .before .before .before .before .before .before .flags .ensures) (c .before .before .before .before .before .before .margin .result) (c .before .before .before .before .before .before .margin .ensures) (w .ensures) (c .before .pack .ensures)
 
 pub place-at-spec : {M : Type 1} → statement M
-place-at-spec = tie.close (tie.spec (λ c κs. search needs) (λ c. search needs) returns (λ c κs. search needs) (λ c. search needs) returns-2 (λ c. search needs) (λ c κs. search needs) (λ c. search needs) (λ c. search needs) (λ c κs. search needs) (λ c. search needs) returns-3 (λ c κs. search needs) (λ c κs. search needs) (λ c. search needs) (λ c κs. search needs) (λ c κs. search needs) (λ c. search needs) (λ c. search needs) (λ c. search needs) returns-4 (λ c. search needs) returns-5)
+place-at-spec = tie.close (tie.spec (λ c κs. search needs) (λ c. search needs) returns (λ c κs. search needs) (λ c. search needs) returns-2 (λ c. search needs) (λ c κs. search needs) (λ c. search needs) (λ c. search needs) (λ c κs. search needs) (λ c. search needs) returns-3 (λ c κs. search needs) (λ c κs. search needs) (λ c κs. search needs) (λ c κs. search needs) (λ c. search needs) (λ c. search needs) (λ c. search needs) returns-4 (λ c. search needs) returns-5)
