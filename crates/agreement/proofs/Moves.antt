@@ -8,7 +8,7 @@ use lib.ListN.{length}
 use Rattle.formatting.specs.declared.flags.FormattingFlags.{FormattingFlags}
 use Rattle.str_writer.specs.Value.{Value, textOf, leaves}
 use Rattle.agreement.specs.declared.Kind.{Kind}
-use Rattle.agreement.specs.Call.{Place, Call, opens, place, value, sub, endsub, finish, nameOf, placeName, suits, valueFault, cutNumber, nameFault, openFault, subFault}
+use Rattle.agreement.specs.Call.{Place, Call, opens, place, value, sub, endsub, finish, nameOf, valueFault, cutNumber, openFault, subFault, placeFault}
 use Rattle.agreement.specs.Ledger.{Ledger, Open, building, within, marginOf, ready, meets, feed, closing, placing}
 use Rattle.agreement.specs.Model.{Mode, counting, writing, Dev, Put, putValue, hold, tries, stops, Entry, builder, outer, State, Out, readyTop, namePieces, placePieces, closePieces, guard, opened, placeAt, endsubAt, finishAt, stepIn, step, run, cutIn, beyond}
 use Rattle.agreement.specs.Agreement.{Whole}
@@ -30,7 +30,7 @@ module _ (m₀ : Mode) (b₀ : List ℕ) where
   place-kept : (F : State) (x : Place) (s : List Entry) → KeptSt F → KeptSt (placeAt F x s .state)
   place-kept F x [] h = h
   place-kept F x (builder k has g ∷ s) h =
-      guard-cases KeptSt (cond (suits x k) (nameFault (placeName x)) 8) F _ h
+      guard-cases KeptSt (placeFault x k) F _ h
       (tries-kept m₀ b₀ (F .dev) (placePieces k has (F .flags .«is_alternate») (F .margin) x) h .1)
   place-kept F x (outer f m ∷ s) h = h
 

@@ -124,6 +124,10 @@ nameFault s = cond (wellFormed s) 0 4
 abbrev pub openFault : Bool → ℕ → ℕ → List ℕ → ℕ
 openFault ready depth margin name = cond ready (cond (leb 64 depth) 7 (cond (ltb 65531 margin) 7 (nameFault name))) 8
 
+-- 'The answer to a call', a field or an entry: 8 where it is of the wrong kind, then 4
+abbrev pub placeFault : Place → Kind → ℕ
+placeFault x k = cond (suits x k) (nameFault (placeName x)) 8
+
 -- 'The answer to a call', opening a sub-formatter: 8, then 7 with 64 entries open
 abbrev pub subFault : Bool → ℕ → ℕ
 subFault ready depth = cond ready (cond (leb 64 depth) 7 0) 8

@@ -7,7 +7,7 @@ use lib.ListN.{length}
 use Rattle.formatting.specs.declared.flags.FormattingFlags.{FormattingFlags}
 use Rattle.str_writer.specs.Value.{Value, textOf}
 use Rattle.agreement.specs.declared.Kind.{Kind}
-use Rattle.agreement.specs.Call.{Place, field, item, entry, Call, opens, place, value, sub, endsub, finish, nameOf, placeName, suits, firstSep, laterSep, colon, commaLine, bracket, plainClose, emptyClose, spaces, valueFault, nameFault, openFault, subFault}
+use Rattle.agreement.specs.Call.{Place, field, item, entry, Call, opens, place, value, sub, endsub, finish, nameOf, firstSep, laterSep, colon, commaLine, bracket, plainClose, emptyClose, spaces, valueFault, openFault, subFault, placeFault}
 
 -- 'ledger': builders with their kind and whether they have a field, sub-formatters with the flags outside them
 pub data Open : Type 0 where
@@ -39,7 +39,7 @@ ready (within f ∷ p) = true
 -- 'A nested record', 8: a field or entry with no builder innermost, or of the wrong kind; then 4
 abbrev pub placeMeets : Place → List Open → ℕ
 placeMeets x [] = 8
-placeMeets x (building k h ∷ p) = cond (suits x k) (nameFault (placeName x)) 8
+placeMeets x (building k h ∷ p) = placeFault x k
 placeMeets x (within f ∷ p) = 8
 
 -- 'A nested record', 8: closing a sub-formatter that is not innermost

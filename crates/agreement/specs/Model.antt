@@ -13,7 +13,7 @@ use Rattle.agreement.specs.declared.Kind.{Kind}
 pub use Rattle.agreement.specs.declared.Entry.{Entry}
 pub use Rattle.agreement.specs.declared.Entry.the-variants.{Builder as builder, Outer as outer}
 use Rattle.agreement.specs.declared.Kind.the-variants.{Struct, Tuple, List as ListKind, Set}
-use Rattle.agreement.specs.Call.{Place, field, item, entry, Call, opens, place, value, sub, endsub, finish, nameOf, placeName, suits, firstSep, laterSep, colon, commaLine, bracket, plainClose, emptyClose, spaces, valueFault, cutNumber, nameFault, openFault, subFault}
+use Rattle.agreement.specs.Call.{Place, field, item, entry, Call, opens, place, value, sub, endsub, finish, nameOf, firstSep, laterSep, colon, commaLine, bracket, plainClose, emptyClose, spaces, valueFault, cutNumber, openFault, subFault, placeFault}
 
 -- 'A nested record': a counting run with its total, or a writing run with its cursor
 pub data Mode : Type 0 where
@@ -143,7 +143,7 @@ abbrev pub placeAt : State → Place → List Entry → Out
 placeAt F x [] = record { answer = 8; state = F }
 placeAt F x (builder k has h ∷ s) =
     let r = tries (F .dev) (placePieces k has (F .flags .«is_alternate») (F .margin) x) in
-    guard (cond (suits x k) (nameFault (placeName x)) 8) F
+    guard (placeFault x k) F
     record {
       answer = 0;
       state = record { dev = r .dev; flags = F .flags; margin = F .margin; stack = builder k true (hold h (r .answer)) ∷ s };

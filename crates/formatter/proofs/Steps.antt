@@ -15,11 +15,11 @@ use Rattle.str_writer.specs.Value.{Value}
 use Rattle.agreement.specs.declared.Kind.{Kind}
 use Rattle.agreement.specs.declared.Entry.{Entry}
 use Rattle.agreement.specs.declared.Entry.the-variants.{Builder as builder, Outer as outer}
-use Rattle.agreement.specs.Call.{Place, Call, opens, place, value, sub, endsub, finish, nameOf, valueFault, cutNumber, nameFault, openFault}
+use Rattle.agreement.specs.Call.{Place, Call, opens, place, value, sub, endsub, finish, nameOf, valueFault, cutNumber, nameFault, openFault, placeFault}
 use Rattle.agreement.specs.Model.{Put, putValue, hold, cutIn, tries, stops, namePieces, placePieces, closePieces, State, Out, guard, beyond, readyTop, finishAt, stepIn, step}
 use Rattle.writer_backend.specs.declared.pieces.Wrote.{Wrote}
 use Rattle.writer_backend.specs.Output.{modeOf, devOf, putOut}
-use Rattle.writer_backend.specs.Pieces.{tryAll, placeFault}
+use Rattle.writer_backend.specs.Pieces.{tryAll}
 use Rattle.writer_backend.specs.Values.{unlessFault, valueOut}
 use Rattle.writer_backend.proofs.Sequence.{tried}
 use Rattle.formatter.specs.declared.head.Head.{Head}

@@ -1,9 +1,11 @@
 // An open entry as a number of the stack.
 ghost use mathlib.Core.Path.{_≡_};
 ghost use Prim.Native.Nat.{_<_};
-ghost use Rattle.formatter.specs.Entries.{entryOf, kindOf};
+ghost use Rattle.agreement.specs.declared.Entry.the-variants.{Builder as builder, Outer as outer};
+ghost use Rattle.formatter.specs.Entries.{entryOf, kindOf, heldOf};
 use agreement::Entry;
 use agreement::Kind;
+use formatting::FormattingFlags;
 use formatting::bit;
 use formatting::flags_number;
 use formatting::flags_of;
@@ -34,34 +36,46 @@ fn kind_number(k: Kind) -> u32
     }
 }
 
+fn held_of(n: u32) -> u8
+    ensures { λ r. ⌜ r ≡ heldOf n ⌝ }
+{
+    if n == 0 {
+        return 0;
+    }
+    if n == 1 {
+        return 1;
+    }
+    6
+}
+
 // The entry that a number is.
 pub fn unpack(n: u32) -> Entry
     ensures { λ r. ⌜ r ≡ entryOf n ⌝ }
 {
     if n % 2 == 0 {
-        let held = n / 16 % 256;
-        return Entry::Builder(kind_of(n / 2 % 4), n / 8 % 2 == 1, held as u8);
+        return Entry::Builder(kind_of(n / 2 % 4), n / 8 % 2 == 1, held_of(n / 16 % 8));
     }
     let flags = n / 2 % 16;
     let margin = n / 32 % 65536;
     Entry::Outer(flags_of(flags as u64), margin as u16)
 }
 
-// A number that is an entry.
-pub fn pack(e: Entry) -> u32
-    ensures { λ r. ⌜ entryOf r ≡ e ⌝ }
+// A number that is a builder. What it holds is 0, 1 or 6.
+pub fn pack_builder(k: Kind, has: bool, held: u8) -> u32
+    requires { ⌜ heldOf held ≡ held ⌝ }
+    ensures { λ r. ⌜ entryOf r ≡ builder k has held ⌝ }
 {
-    match e {
-        Entry::Builder(k, has, held) => {
-            let a = kind_number(k);
-            let b = bit(has) as u32;
-            let h = held as u32;
-            2 * a + 8 * b + 16 * h
-        }
-        Entry::Outer(f, m) => {
-            let a = flags_number(f) as u32;
-            let w = m as u32;
-            1 + 2 * a + 32 * w
-        }
-    }
+    let a = kind_number(k);
+    let b = bit(has) as u32;
+    let h = held as u32;
+    2 * a + 8 * b + 16 * h
+}
+
+// A number that is a sub-formatter.
+pub fn pack_outer(flags: FormattingFlags, margin: u16) -> u32
+    ensures { λ r. ⌜ entryOf r ≡ outer flags margin ⌝ }
+{
+    let a = flags_number(flags) as u32;
+    let w = margin as u32;
+    1 + 2 * a + 32 * w
 }

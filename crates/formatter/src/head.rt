@@ -12,7 +12,8 @@ ghost use Rattle.writer_backend.specs.Pieces.{placeOf};
 ghost use Rattle.writer_backend.specs.Values.{valueOf};
 ghost use Rattle.formatter.specs.Entries.{entryOf};
 ghost use Rattle.formatter.specs.View.{stackOf, depthOf, marginOf, view, viewOut};
-use crate::entries::pack;
+use crate::entries::pack_builder;
+use crate::entries::pack_outer;
 use crate::entries::unpack;
 use agreement::Entry;
 use agreement::Kind;
@@ -140,7 +141,7 @@ pub fn place_at(h: Head, stack: &mut [u32; 64], buf: &mut [u8], p: Spot, name: &
             let margin = h.margin();
             let t = Wrote { answer: held, mode };
             let w = place_pieces(t, buf, k, has, flags.is_alternate, margin, p, name);
-            stack[i] = pack(Entry::Builder(k, true, w.answer));
+            stack[i] = pack_builder(k, true, w.answer);
             let after = w.mode;
             HStep {
                 answer: 0,
@@ -250,7 +251,7 @@ pub fn open_at(h: Head, stack: &mut [u32; 64], buf: &mut [u8], k: Kind, name: &[
         };
     }
     let w = put_name(mode, buf, k, name);
-    stack[d] = pack(Entry::Builder(k, false, w.answer));
+    stack[d] = pack_builder(k, false, w.answer);
     let after = w.mode;
     HStep {
         answer: 0,
@@ -283,7 +284,7 @@ pub fn sub_at(h: Head, stack: &mut [u32; 64], buf: &[u8], g: FormattingFlags) ->
     }
     let flags = h.flags();
     let margin = h.margin();
-    stack[d] = pack(Entry::Outer(flags, margin));
+    stack[d] = pack_outer(flags, margin);
     HStep {
         answer: 0,
         head: Head {

@@ -12,7 +12,7 @@ use borrow.Author.Tests.{le-leb}
 use Rattle.formatting.specs.declared.flags.FormattingFlags.{FormattingFlags}
 use Rattle.agreement.specs.declared.Entry.{Entry}
 use Rattle.agreement.specs.declared.Entry.the-variants.{Builder as builder, Outer as outer}
-use Rattle.agreement.specs.Call.{Place, Call, opens, place, value, sub, endsub, finish, nameOf, placeName, suits, valueFault, cutNumber, nameFault, openFault, subFault}
+use Rattle.agreement.specs.Call.{Place, Call, opens, place, value, sub, endsub, finish, nameOf, valueFault, cutNumber, openFault, subFault, placeFault}
 use Rattle.agreement.specs.Model.{Mode, numberIn, counting, writing, Dev, to, most, putIn, put, hold, tries, goOn, stops, State, Out, readyTop, namePieces, placePieces, closePieces, guard, opened, placeAt, endsubAt, finishAt, cutIn, stepIn, beyond, step, run, start}
 use Rattle.agreement.specs.Agreement.{AllDone}
 use Rattle.agreement.proofs.Output.{KeptIn}
@@ -53,7 +53,7 @@ module _ (P : Mode → List ℕ → Type 0) where
     place-keep : (F : State) (x : Place) (s : List Entry) → In F → In (placeAt F x s .state)
     place-keep F x [] h = h
     place-keep F x (builder k has g ∷ s) h =
-        guard-cases In (cond (suits x k) (nameFault (placeName x)) 8) F _ h
+        guard-cases In (placeFault x k) F _ h
         (tries-keep (F .dev) (placePieces k has (F .flags .«is_alternate») (F .margin) x) h)
     place-keep F x (outer f m ∷ s) h = h
 

@@ -1,10 +1,9 @@
 -- Pieces tried one after another from a refusal already held, what they add to a total, and the place that a field or an entry is.
-use mathlib.Core.Bool.{Bool, true, false, cond}
+use mathlib.Core.Bool.{Bool, true, false}
 use mathlib.Core.List.{List, [], _∷_}
 use Prim.Native.Nat.{ℕ, _+_}
 use lib.ListN.{length}
-use Rattle.agreement.specs.declared.Kind.{Kind}
-use Rattle.agreement.specs.Call.{Place, field, item, entry, suits, placeName, nameFault, spaces}
+use Rattle.agreement.specs.Call.{Place, field, item, entry, spaces}
 use Rattle.agreement.specs.Model.{Put, put, hold}
 use Rattle.writer_backend.specs.declared.record.Spot.{Spot}
 use Rattle.writer_backend.specs.declared.record.Spot.the-variants.{Field, Item}
@@ -34,7 +33,3 @@ abbrev pub placeOf : Spot → List ℕ → Place
 placeOf Field s = field s
 placeOf Item s = item
 placeOf spot.Entry s = entry
-
--- Document 01, 'A nested record', 8: a field or entry of the wrong kind; then 4
-abbrev pub placeFault : Place → Kind → ℕ
-placeFault x k = cond (suits x k) (nameFault (placeName x)) 8

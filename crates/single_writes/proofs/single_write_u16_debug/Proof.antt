@@ -6,7 +6,7 @@ use Rattle.single_writes.proofs.single_write_u16_debug.Tie as tie
 
 returns : tie.Need-returns
 returns c =
-    c .answered .ensures _ ∙ ap (λ o. wrote o) (rw (c .before .before .before .before .before .flags-at .ensures) at (c .before .before .before .before .write-u16-debug .ensures))
+    c .answered .ensures _ ∙ ap (λ o. wrote o) (rw (c .before .before .before .before .before .flags-of .ensures) at (c .before .before .before .before .write-u16-debug .ensures))
 
 pub single-write-u16-debug-spec : {M : Type 1} → statement M
 single-write-u16-debug-spec = tie.close (tie.spec (λ c κs. search needs) (λ c κs. search needs) (λ c κs. search needs) (λ c. search needs) returns)

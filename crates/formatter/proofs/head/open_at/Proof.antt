@@ -1,5 +1,8 @@
 use native.Mathlib.Omega.{arith}
 use borrow.Author.Needs.{needs}
+use Rattle.agreement.specs.Model.{namePieces}
+use Rattle.writer_backend.specs.Output.{devOf}
+use Rattle.formatter.proofs.Held.{opened-held}
 use Rattle.agreement.specs.Call.{opens}
 use Rattle.formatter.proofs.Steps.{past-end, open-room, open-refused, open-done}
 use Rattle.formatter.proofs.head.open_at.Statement.{statement}
@@ -19,14 +22,19 @@ returns-2 c =
     let f = c .before .open-fault in
     open-refused (a .h) (a .stack .now) (a .buf .now) (o .result) (o .ensures) (c .before .before .before .before .before .before .if1 .left) (d .result) (d .ensures .0) (d .ensures .1) (a .k) (a .name .now) (c .before .before .before .before .margin .result) (c .before .before .before .before .margin .ensures) (f .result) (f .ensures) (c .if2 .taken)
 
+pack-builder-requires : tie.Need-pack-builder-requires
+pack-builder-requires c κs =
+    let a = c .before .before .before .before .before .before .before .before .before .before .before .before .before .before .before .before .args in
+    opened-held (devOf (a .h .mode) (a .buf .now)) (namePieces (a .k) (a .name .now)) (c .before .before .put-name .ensures)
+
 element-write-stack : tie.Need-element-write-stack
 element-write-stack c =
     let a = c .before .before .before .before .before .before .before .before .before .before .before .before .before .before .before .before .before .args in
     let f = c .before .before .before .before .before .before .open-fault in
     open-room (a .stack .now) (c .before .before .before .before .before .before .before .before .before .before .depth-of .result) (c .before .before .before .before .before .before .before .before .before .margin .result) (a .k) (a .name .now) (f .result) (f .ensures) (c .before .before .before .before .before .if2 .left) .0
 
-add-t25 : tie.Need-add-t25
-add-t25 c =
+add-t24 : tie.Need-add-t24
+add-t24 c =
     let a = c .before .before .before .before .before .before .before .before .before .before .before .before .before .before .before .before .before .before .args in
     let f = c .before .before .before .before .before .before .before .open-fault in
     let room = open-room (a .stack .now) (c .before .before .before .before .before .before .before .before .before .before .before .depth-of .result) (c .before .before .before .before .before .before .before .before .before .before .margin .result) (a .k) (a .name .now) (f .result) (f .ensures) (c .before .before .before .before .before .before .if2 .left) in
@@ -41,7 +49,7 @@ returns-3 c =
     let w = c .before .before .before .before .put-name in
     let room = open-room (a .stack .now) (d .result) (c .before .before .before .before .before .before .before .before .before .before .margin .result) (a .k) (a .name .now) (f .result) (f .ensures) (c .before .before .before .before .before .before .if2 .left) in
     open-done (a .h) (a .stack .now) (a .buf .now) (o .result) (o .ensures) (c .before .before .before .before .before .before .before .before .before .before .before .before .if1 .left) (d .result) (d .ensures .0) (d .ensures .1) (a .k) (a .name .now) (c .before .before .before .before .before .before .before .before .before .before .margin .result) (c .before .before .before .before .before .before .before .before .before .before .margin .ensures) (f .result) (f .ensures) (c .before .before .before .before .before .before .if2 .left) (c .before .before .before .before .before .before .before .before .open-fault-arg2 .given .0) (room .0) (room .1)
-    (w .result) (w .last .1 .0) (c .before .pack .result) (w .ensures) (c .before .pack .ensures)
+    (w .result) (w .last .1 .0) (c .before .pack-builder .result) (w .ensures) (c .before .pack-builder .ensures)
 
 pub open-at-spec : {M : Type 1} → statement M
-open-at-spec = tie.close (tie.spec (λ c κs. search needs) (λ c. search needs) returns (λ c κs. search needs) (λ c κs. search needs) (λ c κs. search needs) (λ c. search needs) returns-2 (λ c κs. search needs) (λ c κs. search needs) (λ c. search needs) element-write-stack add-t25 (λ c. search needs) (λ c. search needs) (λ c. search needs) returns-3)
+open-at-spec = tie.close (tie.spec (λ c κs. search needs) (λ c. search needs) returns (λ c κs. search needs) (λ c κs. search needs) (λ c κs. search needs) (λ c. search needs) returns-2 (λ c κs. search needs) pack-builder-requires (λ c. search needs) element-write-stack add-t24 (λ c. search needs) (λ c. search needs) (λ c. search needs) returns-3)

@@ -1,4 +1,8 @@
+use mathlib.Core.Path.{sym, _∙_}
 use borrow.Author.Needs.{needs}
+use Rattle.agreement.specs.Model.{placePieces}
+use Rattle.writer_backend.specs.Output.{devOf}
+use Rattle.formatter.proofs.Held.{placed-held, entry-held}
 use Rattle.agreement.specs.Call.{place}
 use Rattle.writer_backend.specs.Pieces.{placeOf}
 use Rattle.formatter.proofs.Steps.{past-end, place-none, place-outer, place-refused, place-done}
@@ -29,6 +33,13 @@ returns-3 c =
     place-refused (a .h) (a .stack .now) (a .buf .now) (o .result) (o .ensures) (c .before .before .before .before .before .before .before .before .before .before .if1 .left) (d .result) (d .ensures .0) (d .ensures .1) (c .before .before .before .before .before .before .before .before .if2 .left)
     (u .result) (u .ensures) (e .0 .0) (e .0 .1 .0) (e .0 .1 .1 .0) (e .1) (placeOf (a .p) (a .name .now)) (f .result) (f .ensures) (c .if3 .taken)
 
+pack-builder-requires : tie.Need-pack-builder-requires
+pack-builder-requires c κs =
+    let a = c .before .before .before .before .before .before .before .before .before .before .before .before .before .before .before .before .before .before .before .before .before .before .args in
+    let e = c .before .before .before .before .before .before .before .before .before .e .given in
+    let u = c .before .before .before .before .before .before .before .before .before .before .before .entry-in in
+    placed-held (e .0 .1 .1 .0) (devOf (a .h .mode) (a .buf .now)) (placePieces (e .0 .0) (e .0 .1 .0) (c .before .before .before .before .before .flags .result .«is_alternate») (c .before .before .before .before .margin .result) (placeOf (a .p) (a .name .now))) (entry-held _ (e .0 .0) (e .0 .1 .0) (e .0 .1 .1 .0) (sym (u .ensures) ∙ e .1)) (c .before .before .place-pieces .ensures)
+
 returns-4 : tie.Need-returns-4
 returns-4 c =
     let a = c .before .before .before .before .before .before .before .before .before .before .before .before .before .args in
@@ -49,7 +60,7 @@ returns-5 c =
     let w = c .before .before .before .before .place-pieces in
     place-done (a .h) (a .stack .now) (a .buf .now) (o .result) (o .ensures) (c .before .before .before .before .before .before .before .before .before .before .before .before .before .before .before .before .before .before .if1 .left) (d .result) (d .ensures .0) (d .ensures .1) (c .before .before .before .before .before .before .before .before .before .before .before .before .before .before .before .before .if2 .left)
     (u .result) (u .ensures) (e .0 .0) (e .0 .1 .0) (e .0 .1 .1 .0) (e .1) (placeOf (a .p) (a .name .now)) (f .result) (f .ensures) (c .before .before .before .before .before .before .before .before .if3 .left)
-    (c .before .before .before .before .before .before .before .before .before .before .before .before .before .before .entry-in-arg2 .given .0) (w .result) (w .last .1 .0) (c .before .pack .result) (c .before .before .before .before .before .before .before .flags .result) (c .before .before .before .before .before .before .before .flags .ensures) (c .before .before .before .before .before .before .margin .result) (c .before .before .before .before .before .before .margin .ensures) (w .ensures) (c .before .pack .ensures)
+    (c .before .before .before .before .before .before .before .before .before .before .before .before .before .before .entry-in-arg2 .given .0) (w .result) (w .last .1 .0) (c .before .pack-builder .result) (c .before .before .before .before .before .before .before .flags .result) (c .before .before .before .before .before .before .before .flags .ensures) (c .before .before .before .before .before .before .margin .result) (c .before .before .before .before .before .before .margin .ensures) (w .ensures) (c .before .pack-builder .ensures)
 
 pub place-at-spec : {M : Type 1} → statement M
-place-at-spec = tie.close (tie.spec (λ c κs. search needs) (λ c. search needs) returns (λ c κs. search needs) (λ c. search needs) returns-2 (λ c. search needs) (λ c κs. search needs) (λ c. search needs) (λ c. search needs) (λ c κs. search needs) (λ c. search needs) returns-3 (λ c κs. search needs) (λ c κs. search needs) (λ c κs. search needs) (λ c κs. search needs) (λ c. search needs) (λ c. search needs) (λ c. search needs) returns-4 (λ c. search needs) returns-5)
+place-at-spec = tie.close (tie.spec (λ c κs. search needs) (λ c. search needs) returns (λ c κs. search needs) (λ c. search needs) returns-2 (λ c. search needs) (λ c κs. search needs) (λ c. search needs) (λ c. search needs) (λ c κs. search needs) (λ c. search needs) returns-3 (λ c κs. search needs) (λ c κs. search needs) (λ c κs. search needs) pack-builder-requires (λ c. search needs) (λ c. search needs) (λ c. search needs) returns-4 (λ c. search needs) returns-5)

@@ -34,7 +34,7 @@ returns-4 c =
     let o = c .before .before .before .before .before .before .before .before .before .before .before .past in
     let d = c .before .before .before .before .before .before .before .before .before .depth-of in
     let r = c .before .before .before .before .before .before .ready in
-    let p = c .before .pack in
+    let p = c .before .pack-outer in
     let n = c .flags-number in
     sub-done (a .h) (a .stack .now) (a .buf .now) (o .result) (o .ensures) (c .before .before .before .before .before .before .before .before .before .before .if1 .left) (d .result) (d .ensures .0) (d .ensures .1) (r .result) (r .ensures) (a .g) (not-false (r .result) (c .before .before .before .before .before .if2 .left)) (omega arith) (c .before .before .before .before .if3 .left)
     (p .result) (rw (c .before .before .before .flags .ensures, c .before .before .margin .ensures) at (p .ensures)) (n .result) (n .ensures .1)
