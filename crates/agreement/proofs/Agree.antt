@@ -11,7 +11,7 @@ use Rattle.formatting.specs.declared.flags.FormattingFlags.{FormattingFlags}
 use Rattle.str_writer.proofs.Splice.{splice-nil}
 use Rattle.agreement.specs.Call.{Place, Call, opens, place, value, sub, endsub, finish}
 use Rattle.agreement.specs.Ledger.{Open, building, within, Ledger, meets, apply, unlessMet, feed, ledger, fresh, placing, leaving, finishing, Permitted}
-use Rattle.agreement.specs.Model.{Mode, numberIn, counting, writing, Dev, Entry, builder, outer, State, step, run, start, most}
+use Rattle.agreement.specs.Model.{Mode, numberIn, counting, writing, Output, Entry, builder, outer, State, step, run, start, most}
 use Rattle.agreement.specs.Agreement.{AllDone, Has, here, there, Whole, AllWhole, Proper, definedText, written, Counted, Written, Demand3}
 use Rattle.agreement.proofs.Output.{capOf, codeOf, Fits, after, Kept, inside}
 use Rattle.agreement.proofs.Moves.{shape, Move, move-shown, run-kept}
@@ -62,7 +62,7 @@ module _ (m₀ : Mode) (b₀ : List ℕ) where
   move : (F : State) (L : Ledger) (c : Call) → Track m₀ b₀ F L → Whole c → meets L c ≡ 0 → Move (L .text) F c (step F c) (feed L c)
   move F L c T w p =
       subst (λ (l : Ledger). meets l c ≡ 0 → Move (l .text) F c (step F c) (feed l c)) (sym (T .shows))
-      (move-shown (L .text) (F .dev) (F .flags) (F .margin) (F .stack) c (inside m₀ b₀ (F .dev .mode) (F .dev .bytes) (T .kept)) (T .margin) w) p
+      (move-shown (L .text) (F .output) (F .flags) (F .margin) (F .stack) c (inside m₀ b₀ (F .output .mode) (F .output .bytes) (T .kept)) (T .margin) w) p
 
   -- a refusal that is held is answered before all is closed
   held-run : (cs : List Call) (F : State) (L : Ledger) → Track m₀ b₀ F L → SomeHeld m₀ (F .stack)
@@ -81,8 +81,8 @@ module _ (m₀ : Mode) (b₀ : List ℕ) where
 
   fits-run : (cs : List Call) (F : State) (L : Ledger) → Track m₀ b₀ F L → Clear m₀ b₀ F (L .text)
       → AllWhole cs → Permitted L cs → Fits m₀ b₀ (ledger L cs .text)
-      → AllDone (run F cs .answers) × (run F cs .state .dev ≡ after m₀ b₀ (ledger L cs .text))
-  fits-run [] F L T G w p h = (tt, G .dev)
+      → AllDone (run F cs .answers) × (run F cs .state .output ≡ after m₀ b₀ (ledger L cs .text))
+  fits-run [] F L T G w p h = (tt, G .output)
   fits-run (c ∷ cs) F L T G w p h =
       let mv = move F L c T (w .0) (p .0) in
       let g = fits m₀ b₀ mv T G (omega (arith, ledger-grows (feed L c) cs)) in
@@ -131,9 +131,9 @@ module _ (f : FormattingFlags) (cs : List Call) (P : Proper f cs) where
     track = record { kept = kept-start m b h; shows = refl; margin = refl; margins = tt; held = tt }
 
     clear : Clear m b (start m b f) []
-    clear = record { dev = after-nil m b; none = tt }
+    clear = record { output = after-nil m b; none = tt }
 
-    all-done : Fits m b (definedText f cs) → AllDone (run (start m b f) cs .answers) × (run (start m b f) cs .state .dev ≡ after m b (definedText f cs))
+    all-done : Fits m b (definedText f cs) → AllDone (run (start m b f) cs .answers) × (run (start m b f) cs .state .output ≡ after m b (definedText f cs))
     all-done k = fits-run m b cs (start m b f) (fresh f) track clear (P .whole) (P .permitted) k
 
     some-refused : capOf m b < numberIn m + length (definedText f cs) → Has (codeOf m) (run (start m b f) cs .answers)
@@ -142,14 +142,14 @@ module _ (f : FormattingFlags) (cs : List Call) (P : Proper f cs) where
   counted-agrees : length (definedText f cs) ≤ most → Counted f cs
   counted-agrees h =
       let r = all-done (counting 0) [] (omega arith) (omega arith) in
-      record { done = r .0; total = ap (λ (d : Dev). d .mode) (r .1) ∙ ap counting (zero-add (length (definedText f cs))) }
+      record { done = r .0; total = ap (λ (d : Output). d .mode) (r .1) ∙ ap counting (zero-add (length (definedText f cs))) }
 
   written-agrees : (b : List ℕ) (p : ℕ) → p ≤ length b → Written f cs b p
   written-agrees b p h =
       record {
         exactly = (λ d. done-fits d (decLe (p + length (definedText f cs)) (length b)), λ k. all-done (writing p) b h k .0);
-        cursor = λ k. ap (λ (d : Dev). d .mode) (all-done (writing p) b h k .1);
-        bytes = λ k. ap (λ (d : Dev). d .bytes) (all-done (writing p) b h k .1);
+        cursor = λ k. ap (λ (d : Output). d .mode) (all-done (writing p) b h k .1);
+        bytes = λ k. ap (λ (d : Output). d .bytes) (all-done (writing p) b h k .1);
         refused = some-refused (writing p) b h;
         before = λ k. kept .1;
         size = kept .0;
@@ -163,9 +163,9 @@ module _ (f : FormattingFlags) (cs : List Call) (P : Proper f cs) where
       kept-bytes (counting n) c k = absurd k
       kept-bytes (writing n) c k = (k .2, k .3)
 
-      kept : (length (written f cs b p .state .dev .bytes) ≡ length b) × (take p (written f cs b p .state .dev .bytes) ≡ take p b)
+      kept : (length (written f cs b p .state .output .bytes) ≡ length b) × (take p (written f cs b p .state .output .bytes) ≡ take p b)
       kept =
-          kept-bytes (written f cs b p .state .dev .mode) (written f cs b p .state .dev .bytes)
+          kept-bytes (written f cs b p .state .output .mode) (written f cs b p .state .output .bytes)
           (run-kept (writing p) b (start (writing p) b f) cs (kept-start (writing p) b h))
 
 pub agree : Demand3

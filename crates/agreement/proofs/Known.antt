@@ -29,12 +29,12 @@ unfolding textOf inputFault continues follow digitText digits digitsIn
 sheet-text = refl
 
 -- with 3 bytes: finish is refused, and they are `Px7`
-pub sheet-3 : (written defaultFlags sheet (replicate 3 0) 0 .answers ≡ 0 ∷ 0 ∷ 0 ∷ 1 ∷ []) × (written defaultFlags sheet (replicate 3 0) 0 .state .dev .bytes ≡ 0x50 ∷ 0x78 ∷ 0x37 ∷ [])
+pub sheet-3 : (written defaultFlags sheet (replicate 3 0) 0 .answers ≡ 0 ∷ 0 ∷ 0 ∷ 1 ∷ []) × (written defaultFlags sheet (replicate 3 0) 0 .state .output .bytes ≡ 0x50 ∷ 0x78 ∷ 0x37 ∷ [])
 unfolding textOf inputFault cutFault placed continues follow digitText digits digitsIn
 sheet-3 = (refl, refl)
 
 -- with 9 bytes: finish is refused, and the cursor is 8
-pub sheet-9 : (written defaultFlags sheet (replicate 9 0) 0 .answers ≡ 0 ∷ 0 ∷ 0 ∷ 1 ∷ []) × (written defaultFlags sheet (replicate 9 0) 0 .state .dev .mode ≡ writing 8)
+pub sheet-9 : (written defaultFlags sheet (replicate 9 0) 0 .answers ≡ 0 ∷ 0 ∷ 0 ∷ 1 ∷ []) × (written defaultFlags sheet (replicate 9 0) 0 .state .output .mode ≡ writing 8)
 unfolding textOf inputFault cutFault placed continues follow digitText digits digitsIn
 sheet-9 = (refl, refl)
 

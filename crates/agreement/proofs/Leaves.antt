@@ -5,7 +5,7 @@ use native.Mathlib.Decide.{decLt}
 use native.Mathlib.Omega.{arith}
 use lib.ListN.{length, length-append}
 use borrow.Author.Tests.{lt-ltb, le-ltb}
-use Rattle.str_writer.specs.Quoted.{costOf, leading, quotedLeaves}
+use Rattle.str_writer.specs.QuotedLeaves.{costOf, leading, quotedLeaves}
 use Rattle.str_writer.specs.Value.{Form, display, debug, Value, integer, char, str, ascii, repeated, stringLeaves, leaves}
 
 leading-fits : (n : ℕ) (s : List ℕ) → length (leading n s) ≤ length s + n

@@ -1,5 +1,6 @@
 pub mod Leaves
 pub mod Output
+pub mod Keeping
 pub mod Moves
 pub mod Track
 pub mod Agree

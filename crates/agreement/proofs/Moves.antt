@@ -8,61 +8,24 @@ use lib.ListN.{length}
 use Rattle.formatting.specs.declared.flags.FormattingFlags.{FormattingFlags}
 use Rattle.str_writer.specs.Value.{Value, textOf, leaves}
 use Rattle.agreement.specs.declared.Kind.{Kind}
-use Rattle.agreement.specs.Call.{Place, Call, opens, place, value, sub, endsub, finish, nameOf, valueFault, cutNumber, openFault, subFault, placeFault}
+use Rattle.agreement.specs.Call.{Place, Call, opens, place, value, sub, endsub, finish, nameOf, valueFault, cutNumber, openFault, subFault}
 use Rattle.agreement.specs.Ledger.{Ledger, Open, building, within, marginOf, ready, meets, feed, closing, placing}
-use Rattle.agreement.specs.Model.{Mode, counting, writing, Dev, Put, putValue, hold, tries, stops, Entry, builder, outer, State, Out, readyTop, namePieces, placePieces, closePieces, guard, opened, placeAt, endsubAt, finishAt, stepIn, step, run, cutIn, beyond}
+use Rattle.agreement.specs.Model.{Mode, counting, writing, Output, PieceOutcome, putValue, hold, tries, stops, Entry, builder, outer, State, Out, readyTop, namePieces, placePieces, closePieces, stepIn, step, run, cutIn, beyond}
 use Rattle.agreement.specs.Agreement.{Whole}
 use Rattle.agreement.proofs.Leaves.{leaves-fit}
-use Rattle.agreement.proofs.Output.{KeptIn, KeptBy, put-kept, tries-kept, stops-kept}
-
-guard-cases : (P : State → Type 0) (n : ℕ) (F : State) (o : Out) → P F → P (o .state) → P (guard n F o .state)
-guard-cases P zero F o a b = b
-guard-cases P (suc n) F o a b = a
+use Rattle.agreement.proofs.Output.{Kept, KeptIn, KeptBy, put-kept}
+use Rattle.agreement.proofs.Keeping.{run-keep}
 
 -- every call keeps what every piece keeps
 module _ (m₀ : Mode) (b₀ : List ℕ) where
   abbrev pub KeptSt : State → Type 0
-  KeptSt F = KeptIn m₀ b₀ (F .dev)
+  KeptSt F = KeptIn m₀ b₀ (F .output)
 
-  pub value-kept : (d : Dev) (f : FormattingFlags) (v : Value) → KeptIn m₀ b₀ d → KeptBy m₀ b₀ (putValue d f v)
+  pub value-kept : (d : Output) (f : FormattingFlags) (v : Value) → KeptIn m₀ b₀ d → KeptBy m₀ b₀ (putValue d f v)
   value-kept d f v h = put-kept m₀ b₀ d (textOf f v) (λ n. leaves n v) (λ n. leaves-fit n v) h
 
-  place-kept : (F : State) (x : Place) (s : List Entry) → KeptSt F → KeptSt (placeAt F x s .state)
-  place-kept F x [] h = h
-  place-kept F x (builder k has g ∷ s) h =
-      guard-cases KeptSt (placeFault x k) F _ h
-      (tries-kept m₀ b₀ (F .dev) (placePieces k has (F .flags .«is_alternate») (F .margin) x) h .1)
-  place-kept F x (outer f m ∷ s) h = h
-
-  endsub-kept : (F : State) (s : List Entry) → KeptSt F → KeptSt (endsubAt F s .state)
-  endsub-kept F [] h = h
-  endsub-kept F (builder k has g ∷ s) h = h
-  endsub-kept F (outer f m ∷ s) h = h
-
-  finish-kept : (F : State) (s : List Entry) → KeptSt F → KeptSt (finishAt F s .state)
-  finish-kept F [] h = h
-  finish-kept F (builder k has zero ∷ s) h = stops-kept m₀ b₀ (F .dev) (closePieces k has (F .flags .«is_alternate») (F .margin - 4)) h .1
-  finish-kept F (builder k has (suc g) ∷ s) h = h
-  finish-kept F (outer f m ∷ s) h = h
-
-  in-kept : (F : State) (c : Call) → KeptSt F → KeptSt (stepIn F c .state)
-  in-kept F (opens k name) h =
-      guard-cases KeptSt (openFault (readyTop (F .stack)) (length (F .stack)) (F .margin) (nameOf k name)) F
-      (opened F k (tries (F .dev) (namePieces k name))) h (tries-kept m₀ b₀ (F .dev) (namePieces k name) h .1)
-  in-kept F (place x) h = place-kept F x (F .stack) h
-  in-kept F (value v) h =
-      guard-cases KeptSt (hold (cond (readyTop (F .stack)) (valueFault v) 8) (cutIn (F .dev .mode) (cutNumber v))) F _ h
-      (value-kept (F .dev) (F .flags) v h .1)
-  in-kept F (sub f) h = guard-cases KeptSt (subFault (readyTop (F .stack)) (length (F .stack))) F _ h h
-  in-kept F endsub h = endsub-kept F (F .stack) h
-  in-kept F finish h = finish-kept F (F .stack) h
-
-  pub step-kept : (F : State) (c : Call) → KeptSt F → KeptSt (step F c .state)
-  step-kept F c h = guard-cases KeptSt (beyond (F .dev .mode) (F .dev .bytes)) F (stepIn F c) h (in-kept F c h)
-
   pub run-kept : (F : State) (cs : List Call) → KeptSt F → KeptSt (run F cs .state)
-  run-kept F [] h = h
-  run-kept F (c ∷ cs) h = run-kept (step F c .state) cs (step-kept F c h)
+  run-kept = run-keep (Kept m₀ b₀) (λ m b t l f h. put-kept m₀ b₀ (record { mode = m; bytes = b }) t l f h .1)
 
 -- the pile that a stack shows, and the ledger that a state and a text show
 abbrev pub shape : List Entry → List Open
@@ -83,42 +46,42 @@ length-shape [] = refl
 length-shape (builder k has h ∷ s) = ap suc (length-shape s)
 length-shape (outer f m ∷ s) = ap suc (length-shape s)
 
-abbrev st : Dev → FormattingFlags → ℕ → List Entry → State
-st d f m s = record { dev = d; flags = f; margin = m; stack = s }
+abbrev st : Output → FormattingFlags → ℕ → List Entry → State
+st d f m s = record { output = d; flags = f; margin = m; stack = s }
 
-abbrev out : ℕ → Dev → FormattingFlags → ℕ → List Entry → Out
+abbrev out : ℕ → Output → FormattingFlags → ℕ → List Entry → Out
 out a d f m s = record { answer = a; state = st d f m s }
 
 abbrev lg : List ℕ → FormattingFlags → List Open → Ledger
 lg t f p = record { text = t; flags = f; pile = p }
 
-abbrev tried : Dev → FormattingFlags → ℕ → Kind → Bool → Place → Put
+abbrev tried : Output → FormattingFlags → ℕ → Kind → Bool → Place → PieceOutcome
 tried d f m k has x = tries d (placePieces k has (f .«is_alternate») m x)
 
-abbrev stopped : Dev → FormattingFlags → ℕ → Kind → Bool → Put
+abbrev stopped : Output → FormattingFlags → ℕ → Kind → Bool → PieceOutcome
 stopped d f m k has = stops d (closePieces k has (f .«is_alternate») (m - 4))
 
 -- what a call that meets nothing does to the formatter, and to the ledger whose text is t
 pub data Move (t : List ℕ) : State → Call → Out → Ledger → Type 0 where
-  open-builder : (d : Dev) (f : FormattingFlags) (m : ℕ) (s : List Entry) (k : Kind) (name : List ℕ) →
+  open-builder : (d : Output) (f : FormattingFlags) (m : ℕ) (s : List Entry) (k : Kind) (name : List ℕ) →
       Move t (st d f m s) (opens k name)
-      (out 0 (tries d (namePieces k name) .dev) f (m + 4) (builder k false (tries d (namePieces k name) .answer) ∷ s))
+      (out 0 (tries d (namePieces k name) .output) f (m + 4) (builder k false (tries d (namePieces k name) .answer) ∷ s))
       (lg (t ++ nameOf k name) f (building k false ∷ shape s))
-  put-place : (d : Dev) (f : FormattingFlags) (m : ℕ) (s : List Entry) (k : Kind) (has : Bool) (h : ℕ) (x : Place) →
+  put-place : (d : Output) (f : FormattingFlags) (m : ℕ) (s : List Entry) (k : Kind) (has : Bool) (h : ℕ) (x : Place) →
       Move t (st d f m (builder k has h ∷ s)) (place x)
-      (out 0 (tried d f m k has x .dev) f m (builder k true (hold h (tried d f m k has x .answer)) ∷ s))
+      (out 0 (tried d f m k has x .output) f m (builder k true (hold h (tried d f m k has x .answer)) ∷ s))
       (placing t f x (building k has ∷ shape s))
-  put-value : (d : Dev) (f : FormattingFlags) (m : ℕ) (s : List Entry) (v : Value) →
-      Move t (st d f m s) (value v) (out (putValue d f v .answer) (putValue d f v .dev) f m s) (lg (t ++ textOf f v) f (shape s))
-  enter-sub : (d : Dev) (f : FormattingFlags) (m : ℕ) (s : List Entry) (g : FormattingFlags) →
+  put-value : (d : Output) (f : FormattingFlags) (m : ℕ) (s : List Entry) (v : Value) →
+      Move t (st d f m s) (value v) (out (putValue d f v .answer) (putValue d f v .output) f m s) (lg (t ++ textOf f v) f (shape s))
+  enter-sub : (d : Output) (f : FormattingFlags) (m : ℕ) (s : List Entry) (g : FormattingFlags) →
       Move t (st d f m s) (sub g) (out 0 d g m (outer f m ∷ s)) (lg t g (within f ∷ shape s))
-  leave-sub : (d : Dev) (f : FormattingFlags) (m : ℕ) (s : List Entry) (g : FormattingFlags) (n : ℕ) →
+  leave-sub : (d : Output) (f : FormattingFlags) (m : ℕ) (s : List Entry) (g : FormattingFlags) (n : ℕ) →
       Move t (st d f m (outer g n ∷ s)) endsub (out 0 d g n s) (lg t g (shape s))
-  close-builder : (d : Dev) (f : FormattingFlags) (m : ℕ) (s : List Entry) (k : Kind) (has : Bool) →
+  close-builder : (d : Output) (f : FormattingFlags) (m : ℕ) (s : List Entry) (k : Kind) (has : Bool) →
       Move t (st d f m (builder k has zero ∷ s)) finish
-      (out (stopped d f m k has .answer) (stopped d f m k has .dev) f (m - 4) s)
+      (out (stopped d f m k has .answer) (stopped d f m k has .output) f (m - 4) s)
       (lg (t ++ closing k has (f .«is_alternate») (marginOf (shape s))) f (shape s))
-  answer-held : (d : Dev) (f : FormattingFlags) (m : ℕ) (s : List Entry) (k : Kind) (has : Bool) (h : ℕ) →
+  answer-held : (d : Output) (f : FormattingFlags) (m : ℕ) (s : List Entry) (k : Kind) (has : Bool) (h : ℕ) →
       Move t (st d f m (builder k has (suc h) ∷ s)) finish (out (suc h) d f m s)
       (lg (t ++ closing k has (f .«is_alternate») (marginOf (shape s))) f (shape s))
 
@@ -126,7 +89,7 @@ no-cut : (m : Mode) → cutIn m 0 ≡ 0
 no-cut (counting n) = refl
 no-cut (writing c) = refl
 
-module _ (t : List ℕ) (d : Dev) (f : FormattingFlags) (m : ℕ) where
+module _ (t : List ℕ) (d : Output) (f : FormattingFlags) (m : ℕ) where
   move-place : (s : List Entry) (x : Place) → meets (shown t (st d f m s)) (place x) ≡ 0
       → Move t (st d f m s) (place x) (stepIn (st d f m s) (place x)) (feed (shown t (st d f m s)) (place x))
   move-place [] x e = absurd (omega arith)

@@ -12,7 +12,7 @@ use Rattle.agreement.specs.declared.Kind.{Kind}
 use Rattle.agreement.specs.declared.Kind.the-variants.{Struct, Tuple, List as ListKind, Set}
 use Rattle.agreement.specs.Call.{Place, field, item, entry, Call, nameOf, spaces, emptyClose, plainClose}
 use Rattle.agreement.specs.Ledger.{Ledger, building, marginOf, separator, label, closing, placing}
-use Rattle.agreement.specs.Model.{Mode, numberIn, counting, writing, Dev, Put, putValue, tries, stops, Entry, builder, outer, State, Out, namePieces, labelPieces, placePieces, closePieces}
+use Rattle.agreement.specs.Model.{Mode, numberIn, counting, writing, Output, PieceOutcome, putValue, tries, stops, Entry, builder, outer, State, Out, namePieces, labelPieces, placePieces, closePieces}
 use Rattle.agreement.proofs.Output.{capOf, codeOf, after, Fits, joined, put-fits, put-over, tries-fits, tries-over, stops-fits, stops-answer, Coded, hold-code, hold-coded, tries-kept, stops-kept}
 use Rattle.agreement.proofs.Moves.{KeptSt, value-kept, shape, shown, Move, open-builder, put-place, put-value, enter-sub, leave-sub, close-builder, answer-held}
 
@@ -126,14 +126,14 @@ module _ (m₀ : Mode) (b₀ : List ℕ) where
 
   -- nothing is refused so far, and t has gone to the output
   pub record Clear (F : State) (t : List ℕ) : Type 0 where
-    pub dev : F .dev ≡ after m₀ b₀ t
+    pub output : F .output ≡ after m₀ b₀ t
     pub none : NoneHeld (F .stack)
 
-  module _ {d : Dev} (ss : List (List ℕ)) (t : List ℕ) {u : List ℕ} (e : d ≡ after m₀ b₀ t) (q : t ++ joined ss ≡ u) where
-    tries-done : Fits m₀ b₀ u → tries d ss ≡ record { answer = 0; dev = after m₀ b₀ u }
+  module _ {d : Output} (ss : List (List ℕ)) (t : List ℕ) {u : List ℕ} (e : d ≡ after m₀ b₀ t) (q : t ++ joined ss ≡ u) where
+    tries-done : Fits m₀ b₀ u → tries d ss ≡ record { answer = 0; output = after m₀ b₀ u }
     tries-done h = rw (e, ← q) (tries-fits m₀ b₀ t ss (rw q h))
 
-    stops-done : Fits m₀ b₀ u → stops d ss ≡ record { answer = 0; dev = after m₀ b₀ u }
+    stops-done : Fits m₀ b₀ u → stops d ss ≡ record { answer = 0; output = after m₀ b₀ u }
     stops-done h = rw (e, ← q) (stops-fits m₀ b₀ t ss (rw q h))
 
     tries-short : Fits m₀ b₀ t → capOf m₀ b₀ < numberIn m₀ + length u → tries d ss .answer ≡ codeOf m₀
@@ -146,30 +146,30 @@ module _ (m₀ : Mode) (b₀ : List ℕ) where
   pub fits : {t : List ℕ} {F : State} {c : Call} {o : Out} {l L : Ledger} → Move t F c o l → Track F L → Clear F t → Fits m₀ b₀ (l .text)
       → (o .answer ≡ 0) × Clear (o .state) (l .text)
   fits {t} (open-builder d f m s k name) T G h =
-      let e = tries-done (namePieces k name) t (G .dev) (name-joined t k name) h in
-      (refl, record { dev = ap (λ (r : Put). r .dev) e; none = (ap (λ (r : Put). r .answer) e, G .none) })
+      let e = tries-done (namePieces k name) t (G .output) (name-joined t k name) h in
+      (refl, record { output = ap (λ (r : PieceOutcome). r .output) e; none = (ap (λ (r : PieceOutcome). r .answer) e, G .none) })
   fits {t} (put-place d f m s k has g x) T G h =
-      let e = tries-done (placePieces k has (f .«is_alternate») m x) t (G .dev) (place-text t k has f m s (T .margin) x) h in
-      (refl, record { dev = ap (λ (r : Put). r .dev) e; none = (rw (G .none .0) (ap (λ (r : Put). r .answer) e), G .none .1) })
+      let e = tries-done (placePieces k has (f .«is_alternate») m x) t (G .output) (place-text t k has f m s (T .margin) x) h in
+      (refl, record { output = ap (λ (r : PieceOutcome). r .output) e; none = (rw (G .none .0) (ap (λ (r : PieceOutcome). r .answer) e), G .none .1) })
   fits {t} (put-value d f m s v) T G h =
-      let e : putValue d f v ≡ record { answer = 0; dev = after m₀ b₀ (t ++ textOf f v) } = rw (G .dev) (put-fits m₀ b₀ t (textOf f v) (λ n. leaves n v) h) in
-      (ap (λ (r : Put). r .answer) e, record { dev = ap (λ (r : Put). r .dev) e; none = G .none })
-  fits (enter-sub d f m s g) T G h = (refl, record { dev = G .dev; none = G .none })
-  fits (leave-sub d f m s g n) T G h = (refl, record { dev = G .dev; none = G .none })
+      let e : putValue d f v ≡ record { answer = 0; output = after m₀ b₀ (t ++ textOf f v) } = rw (G .output) (put-fits m₀ b₀ t (textOf f v) (λ n. leaves n v) h) in
+      (ap (λ (r : PieceOutcome). r .answer) e, record { output = ap (λ (r : PieceOutcome). r .output) e; none = G .none })
+  fits (enter-sub d f m s g) T G h = (refl, record { output = G .output; none = G .none })
+  fits (leave-sub d f m s g n) T G h = (refl, record { output = G .output; none = G .none })
   fits {t} (close-builder d f m s k has) T G h =
-      let e = stops-done (closePieces k has (f .«is_alternate») (m - 4)) t (G .dev) (close-text t k has f m s (T .margin)) h in
-      (ap (λ (r : Put). r .answer) e, record { dev = ap (λ (r : Put). r .dev) e; none = G .none .1 })
+      let e = stops-done (closePieces k has (f .«is_alternate») (m - 4)) t (G .output) (close-text t k has f m s (T .margin)) h in
+      (ap (λ (r : PieceOutcome). r .answer) e, record { output = ap (λ (r : PieceOutcome). r .output) e; none = G .none .1 })
   fits (answer-held d f m s k has g) T G h = absurd (omega (arith, G .none .0))
 
   -- what the ledger adds does not fit: the call answers the code, or a builder holds it
   pub passes : {t : List ℕ} {F : State} {c : Call} {o : Out} {l L : Ledger} → Move t F c o l → Track F L → Clear F t → Fits m₀ b₀ t
       → capOf m₀ b₀ < numberIn m₀ + length (l .text) → (o .answer ≡ codeOf m₀) ⊎ ((o .answer ≡ 0) × SomeHeld m₀ (o .state .stack))
-  passes {t} (open-builder d f m s k name) T G j h = inr (refl, inl (tries-short (namePieces k name) t (G .dev) (name-joined t k name) j h))
+  passes {t} (open-builder d f m s k name) T G j h = inr (refl, inl (tries-short (namePieces k name) t (G .output) (name-joined t k name) j h))
   passes {t} (put-place d f m s k has g x) T G j h =
-      inr (refl, inl (rw (G .none .0) (tries-short (placePieces k has (f .«is_alternate») m x) t (G .dev) (place-text t k has f m s (T .margin) x) j h)))
-  passes {t} (put-value d f m s v) T G j h = inl (rw (G .dev) (put-over m₀ b₀ t (textOf f v) (λ n. leaves n v) j h))
+      inr (refl, inl (rw (G .none .0) (tries-short (placePieces k has (f .«is_alternate») m x) t (G .output) (place-text t k has f m s (T .margin) x) j h)))
+  passes {t} (put-value d f m s v) T G j h = inl (rw (G .output) (put-over m₀ b₀ t (textOf f v) (λ n. leaves n v) j h))
   passes (enter-sub d f m s g) T G j h = absurd (omega arith)
   passes (leave-sub d f m s g n) T G j h = absurd (omega arith)
   passes {t} (close-builder d f m s k has) T G j h =
-      inl (stops-short (closePieces k has (f .«is_alternate») (m - 4)) t (G .dev) (close-text t k has f m s (T .margin)) j h)
+      inl (stops-short (closePieces k has (f .«is_alternate») (m - 4)) t (G .output) (close-text t k has f m s (T .margin)) j h)
   passes (answer-held d f m s k has g) T G j h = absurd (omega (arith, G .none .0))

@@ -54,16 +54,16 @@ written f cs b p = run (start (writing p) b f) cs
 -- demand 3: counting answers 0 throughout and totals exactly the length of the defined text
 pub record Counted (f : FormattingFlags) (cs : List Call) : Type 0 where
   pub done : AllDone (counted f cs .answers)
-  pub total : counted f cs .state .dev .mode ≡ counting (length (definedText f cs))
+  pub total : counted f cs .state .output .mode ≡ counting (length (definedText f cs))
 
 -- demand 3: writing answers 0 throughout exactly when that count fits, leaving exactly that text; else some call answers 1 and no byte before the cursor has changed
 pub record Written (f : FormattingFlags) (cs : List Call) (b : List ℕ) (p : ℕ) : Type 0 where
   pub exactly : AllDone (written f cs b p .answers) ↔ (p + length (definedText f cs) ≤ length b)
-  pub cursor : p + length (definedText f cs) ≤ length b → written f cs b p .state .dev .mode ≡ writing (p + length (definedText f cs))
-  pub bytes : p + length (definedText f cs) ≤ length b → written f cs b p .state .dev .bytes ≡ take p b ++ definedText f cs ++ drop (p + length (definedText f cs)) b
+  pub cursor : p + length (definedText f cs) ≤ length b → written f cs b p .state .output .mode ≡ writing (p + length (definedText f cs))
+  pub bytes : p + length (definedText f cs) ≤ length b → written f cs b p .state .output .bytes ≡ take p b ++ definedText f cs ++ drop (p + length (definedText f cs)) b
   pub refused : length b < p + length (definedText f cs) → Has 1 (written f cs b p .answers)
-  pub before : length b < p + length (definedText f cs) → take p (written f cs b p .state .dev .bytes) ≡ take p b
-  pub size : length (written f cs b p .state .dev .bytes) ≡ length b
+  pub before : length b < p + length (definedText f cs) → take p (written f cs b p .state .output .bytes) ≡ take p b
+  pub size : length (written f cs b p .state .output .bytes) ≡ length b
 
 -- demand 3: for every permitted, closed list of calls that cuts strings only between characters, with a text of at most 2^64 - 1 bytes
 abbrev pub Demand3 : Type 0

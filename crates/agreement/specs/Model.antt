@@ -25,38 +25,38 @@ numberIn (counting n) = n
 numberIn (writing p) = p
 
 -- 'A nested record': the output is the mode with its number, and the lent bytes
-pub record Dev : Type 0 where
+pub record Output : Type 0 where
   pub mode : Mode
   pub bytes : List ℕ
 
 -- 'A nested record': what a piece answers, and the output then
-pub record Put : Type 0 where
+pub record PieceOutcome : Type 0 where
   pub answer : ℕ
-  pub dev : Dev
+  pub output : Output
 
 -- 'A nested record': an answer with the output as it then is
-abbrev pub to : Mode → List ℕ → ℕ → Put
-to m b a = record { answer = a; dev = record { mode = m; bytes = b } }
+abbrev pub to : Mode → List ℕ → ℕ → PieceOutcome
+to m b a = record { answer = a; output = record { mode = m; bytes = b } }
 
 -- 'The answer to a call', 6: the total would pass 2^64 - 1
 abbrev pub most : ℕ
 most = 2 ^ 64 - 1
 
 -- 'The writer': a single write's outcome as that of a piece
-abbrev pub wrote : Outcome → Put
+abbrev pub wrote : Outcome → PieceOutcome
 wrote o = to (writing (o .written .at)) (o .bytes) (numberOf (o .written .answer))
 
 -- 'A nested record': a counting run adds the length of a piece, a writing run writes it; l is what a refused piece leaves in the room that there is
-abbrev pub putIn : Mode → List ℕ → List ℕ → (ℕ → List ℕ) → Put
+abbrev pub putIn : Mode → List ℕ → List ℕ → (ℕ → List ℕ) → PieceOutcome
 putIn (counting n) b t l = cond (ltb most (n + length t)) (to (counting n) b 6) (to (counting (n + length t)) b 0)
 putIn (writing c) b t l = wrote (placedText b c t (l (length b - c)))
 
 -- 'The answer to a call': 1 on a single write keeps the cursor and all bytes
-abbrev pub put : Dev → List ℕ → Put
+abbrev pub put : Output → List ℕ → PieceOutcome
 put d t = putIn (d .mode) (d .bytes) t (λ n. [])
 
 -- 'A nested record': a value is one piece; a quoted string that is refused leaves its leading bytes
-abbrev pub putValue : Dev → FormattingFlags → Value → Put
+abbrev pub putValue : Output → FormattingFlags → Value → PieceOutcome
 putValue d f v = putIn (d .mode) (d .bytes) (textOf f v) (λ n. leaves n v)
 
 -- 'A nested record': the builder holds the first refusal
@@ -65,29 +65,29 @@ hold zero a = a
 hold (suc h) a = suc h
 
 -- 'A nested record', opening, field or entry: each piece is tried even after one is refused
-abbrev pub tries : Dev → List (List ℕ) → Put
-tries d [] = record { answer = 0; dev = d }
+abbrev pub tries : Output → List (List ℕ) → PieceOutcome
+tries d [] = record { answer = 0; output = d }
 tries d (t ∷ ts) =
     let a = put d t in
-    let r = tries (a .dev) ts in
-    record { answer = hold (a .answer) (r .answer); dev = r .dev }
+    let r = tries (a .output) ts in
+    record { answer = hold (a .answer) (r .answer); output = r .output }
 
 -- 'A nested record', finish: a refused piece is answered, and the next ones are not tried
-abbrev pub goOn : ℕ → Put → Put → Put
+abbrev pub goOn : ℕ → PieceOutcome → PieceOutcome → PieceOutcome
 goOn zero r next = next
 goOn (suc a) r next = r
 
 -- 'A nested record', finish: stopping at the first refusal
-abbrev pub stops : Dev → List (List ℕ) → Put
-stops d [] = record { answer = 0; dev = d }
+abbrev pub stops : Output → List (List ℕ) → PieceOutcome
+stops d [] = record { answer = 0; output = d }
 stops d (t ∷ ts) =
     let a = put d t in
-    let r = stops (a .dev) ts in
+    let r = stops (a .output) ts in
     goOn (a .answer) a r
 
 -- 'A nested record': the formatter, its output, its flags and margin, its open entries, the innermost first
 pub record State : Type 0 where
-  pub dev : Dev
+  pub output : Output
   pub flags : FormattingFlags
   pub margin : ℕ
   pub stack : List Entry
@@ -135,18 +135,18 @@ guard zero F o = o
 guard (suc a) F o = record { answer = suc a; state = F }
 
 -- 'A nested record', opening a builder: raise the margin by 4 even if refused; answer 0; the builder holds the refusal
-abbrev pub opened : State → Kind → Put → Out
-opened F k r = record { answer = 0; state = record { dev = r .dev; flags = F .flags; margin = F .margin + 4; stack = builder k false (r .answer) ∷ F .stack } }
+abbrev pub opened : State → Kind → PieceOutcome → Out
+opened F k r = record { answer = 0; state = record { output = r .output; flags = F .flags; margin = F .margin + 4; stack = builder k false (r .answer) ∷ F .stack } }
 
 -- 'A nested record', field or entry: answer 0; the builder holds the refusal and now has a field
 abbrev pub placeAt : State → Place → List Entry → Out
 placeAt F x [] = record { answer = 8; state = F }
 placeAt F x (builder k has h ∷ s) =
-    let r = tries (F .dev) (placePieces k has (F .flags .«is_alternate») (F .margin) x) in
+    let r = tries (F .output) (placePieces k has (F .flags .«is_alternate») (F .margin) x) in
     guard (placeFault x k) F
     record {
       answer = 0;
-      state = record { dev = r .dev; flags = F .flags; margin = F .margin; stack = builder k true (hold h (r .answer)) ∷ s };
+      state = record { output = r .output; flags = F .flags; margin = F .margin; stack = builder k true (hold h (r .answer)) ∷ s };
     }
 placeAt F x (outer f m ∷ s) = record { answer = 8; state = F }
 
@@ -154,16 +154,16 @@ placeAt F x (outer f m ∷ s) = record { answer = 8; state = F }
 abbrev pub endsubAt : State → List Entry → Out
 endsubAt F [] = record { answer = 8; state = F }
 endsubAt F (builder k has h ∷ s) = record { answer = 8; state = F }
-endsubAt F (outer f m ∷ s) = record { answer = 0; state = record { dev = F .dev; flags = f; margin = m; stack = s } }
+endsubAt F (outer f m ∷ s) = record { answer = 0; state = record { output = F .output; flags = f; margin = m; stack = s } }
 
 -- 'A nested record', finish: the builder closes. If it holds a refusal, answer that, margin not lowered. Otherwise lower it by 4 and write the closing
 abbrev pub finishAt : State → List Entry → Out
 finishAt F [] = record { answer = 8; state = F }
 finishAt F (builder k has zero ∷ s) =
-    let r = stops (F .dev) (closePieces k has (F .flags .«is_alternate») (F .margin - 4)) in
-    record { answer = r .answer; state = record { dev = r .dev; flags = F .flags; margin = F .margin - 4; stack = s } }
+    let r = stops (F .output) (closePieces k has (F .flags .«is_alternate») (F .margin - 4)) in
+    record { answer = r .answer; state = record { output = r .output; flags = F .flags; margin = F .margin - 4; stack = s } }
 finishAt F (builder k has (suc h) ∷ s) =
-    record { answer = suc h; state = record { dev = F .dev; flags = F .flags; margin = F .margin; stack = s } }
+    record { answer = suc h; state = record { output = F .output; flags = F .flags; margin = F .margin; stack = s } }
 finishAt F (outer f m ∷ s) = record { answer = 8; state = F }
 
 -- 'The answer to a call', 3: writing only; a counting run does not test boundaries
@@ -175,15 +175,15 @@ cutIn (writing p) c = c
 abbrev pub stepIn : State → Call → Out
 stepIn F (opens k name) =
     guard (openFault (readyTop (F .stack)) (length (F .stack)) (F .margin) (nameOf k name)) F
-    (opened F k (tries (F .dev) (namePieces k name)))
+    (opened F k (tries (F .output) (namePieces k name)))
 stepIn F (place x) = placeAt F x (F .stack)
 stepIn F (value v) =
-    let r = putValue (F .dev) (F .flags) v in
-    guard (hold (cond (readyTop (F .stack)) (valueFault v) 8) (cutIn (F .dev .mode) (cutNumber v))) F
-    record { answer = r .answer; state = record { dev = r .dev; flags = F .flags; margin = F .margin; stack = F .stack } }
+    let r = putValue (F .output) (F .flags) v in
+    guard (hold (cond (readyTop (F .stack)) (valueFault v) 8) (cutIn (F .output .mode) (cutNumber v))) F
+    record { answer = r .answer; state = record { output = r .output; flags = F .flags; margin = F .margin; stack = F .stack } }
 stepIn F (sub f) =
     guard (subFault (readyTop (F .stack)) (length (F .stack))) F
-    record { answer = 0; state = record { dev = F .dev; flags = f; margin = F .margin; stack = outer (F .flags) (F .margin) ∷ F .stack } }
+    record { answer = 0; state = record { output = F .output; flags = f; margin = F .margin; stack = outer (F .flags) (F .margin) ∷ F .stack } }
 stepIn F endsub = endsubAt F (F .stack)
 stepIn F finish = finishAt F (F .stack)
 
@@ -194,7 +194,7 @@ beyond (writing c) b = cond (leb c (length b)) 0 9
 
 -- 'The answer to a call', order: 9 before all
 abbrev pub step : State → Call → Out
-step F c = guard (beyond (F .dev .mode) (F .dev .bytes)) F (stepIn F c)
+step F c = guard (beyond (F .output .mode) (F .output .bytes)) F (stepIn F c)
 
 -- 'A nested record': the answers to a list of calls, and the formatter after them
 pub record Run : Type 0 where
@@ -211,4 +211,4 @@ run F (c ∷ cs) =
 
 -- 'A nested record': it starts fresh, nothing open or held, margin 0, and a total of 0 or cursor p over bytes of any content
 abbrev pub start : Mode → List ℕ → FormattingFlags → State
-start m b f = record { dev = record { mode = m; bytes = b }; flags = f; margin = 0; stack = [] }
+start m b f = record { output = record { mode = m; bytes = b }; flags = f; margin = 0; stack = [] }

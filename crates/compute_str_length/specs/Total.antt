@@ -14,4 +14,4 @@ addTo total n = cond (ltb most (total + n)) (record { first = 6; number = total 
 
 -- 'A nested record': one counter, lent through the calls: r says what a run p answers, and what a length n that is added to its total then answers and leaves
 abbrev pub CountsThenAdds : CountedThenAdded → Played → ℕ → Type 0
-CountsThenAdds r p n = (r .first ≡ p .first) × (_≡_ {A = Ran} (record { first = r .second; number = r .total }) (addTo (numberIn (p .dev .mode)) n))
+CountsThenAdds r p n = (r .first ≡ p .first) × (_≡_ {A = Ran} (record { first = r .second; number = r .total }) (addTo (numberIn (p .output .mode)) n))

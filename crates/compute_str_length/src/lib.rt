@@ -65,7 +65,7 @@ impl ComputeStrLength {
 
     // Counts a run on from the total: the run's first refusal, by document 01's number, 0 for none.
     pub fn count_run(&mut self, flags: FormattingFlags, calls: &[u64], text: &[u8]) -> u8
-        ensures { λ r. ⌜ _≡_ {A = Played} (record { first = r; dev = record { mode = counting (now (self .exit) .len); bytes = [] } }) (playFrom 0 (start (counting (now (self .entry) .len)) [] flags) (decode (now (calls .entry)) (now (text .entry)))) ⌝ }
+        ensures { λ r. ⌜ _≡_ {A = Played} (record { first = r; output = record { mode = counting (now (self .exit) .len); bytes = [] } }) (playFrom 0 (start (counting (now (self .entry) .len)) [] flags) (decode (now (calls .entry)) (now (text .entry)))) ⌝ }
     {
         let r = count_run_from(self.len, flags, calls, text);
         self.len = r.number;

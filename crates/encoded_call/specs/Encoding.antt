@@ -11,8 +11,8 @@ use Rattle.agreement.specs.declared.Kind.the-variants.{Struct, Tuple, Set}
 use Rattle.agreement.specs.declared.Kind.the-variants as kind
 use Rattle.agreement.specs.Call.{Call, opens, place, value, sub, endsub, finish}
 use Rattle.agreement.specs.Model.{State, Out, guard, beyond, step}
-use Rattle.writer_backend.specs.declared.record.Spot.the-variants.{Field, Item}
-use Rattle.writer_backend.specs.declared.record.Spot.the-variants as spot
+use Rattle.writer_backend.specs.declared.record.PlaceKind.the-variants.{Field, Item}
+use Rattle.writer_backend.specs.declared.record.PlaceKind.the-variants as place-kind
 use Rattle.writer_backend.specs.declared.value.Form.{Form}
 use Rattle.writer_backend.specs.declared.value.Form.the-variants.{Display, Debug}
 use Rattle.writer_backend.specs.declared.value.Width.{Width}
@@ -76,7 +76,7 @@ opAt o a b =
     (cond (eqb o 3) (Open Set)
     (cond (eqb o 4) (Place Field)
     (cond (eqb o 5) (Place Item)
-    (cond (eqb o 6) (Place spot.Entry)
+    (cond (eqb o 6) (Place place-kind.Entry)
     (cond (eqb o 7) Finish
     (cond (eqb o 8) (cond (ltb a 12) (Sub (flagsOf a)) Nothing)
     (cond (eqb o 9) EndSub
@@ -108,4 +108,4 @@ decode (o ∷ i ∷ n ∷ a ∷ b ∷ rest) t = callAt o i n a b t ∷ decode re
 -- Document 01, 'The answer to a call', order: 9 before all; what is no call meets 8 and changes nothing
 abbrev pub stepOr : State → Option Call → Out
 stepOr F (some c) = step F c
-stepOr F none = guard (beyond (F .dev .mode) (F .dev .bytes)) F (record { answer = 8; state = F })
+stepOr F none = guard (beyond (F .output .mode) (F .output .bytes)) F (record { answer = 8; state = F })

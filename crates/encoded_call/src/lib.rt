@@ -9,8 +9,8 @@ ghost use Rattle.formatter.specs.View.{view, viewOut};
 ghost use Rattle.writer_backend.specs.Values.{bitsOf};
 ghost use Rattle.encoded_call.specs.Encoding.{valueAt, opAt, callOf, callAt, widthAt, signedAt, unsignedAt, integerAt, charAt, repeatedAt, stepOr};
 use agreement::Kind;
-use formatter::HStep;
 use formatter::Head;
+use formatter::HeadStep;
 use formatter::endsub_at;
 use formatter::finish_at;
 use formatter::open_at;
@@ -23,7 +23,7 @@ use utils::Range;
 use writer_backend::Form;
 use writer_backend::Integer;
 use writer_backend::PVariant;
-use writer_backend::Spot;
+use writer_backend::PlaceKind;
 use writer_backend::Width;
 use writer_backend::greatest;
 use writer_backend::past;
@@ -31,7 +31,7 @@ use writer_backend::past;
 // What a call's first word asks for.
 pub enum Op {
     Open(Kind),
-    Place(Spot),
+    Place(PlaceKind),
     Finish,
     Sub(FormattingFlags),
     EndSub,
@@ -170,13 +170,13 @@ fn op_at(o: u64, a: u64, b: u64) -> Op
         return Op::Open(Kind::Set);
     }
     if o == 4 {
-        return Op::Place(Spot::Field);
+        return Op::Place(PlaceKind::Field);
     }
     if o == 5 {
-        return Op::Place(Spot::Item);
+        return Op::Place(PlaceKind::Item);
     }
     if o == 6 {
-        return Op::Place(Spot::Entry);
+        return Op::Place(PlaceKind::Entry);
     }
     if o == 7 {
         return Op::Finish;
@@ -194,22 +194,22 @@ fn op_at(o: u64, a: u64, b: u64) -> Op
 }
 
 // What is no call: 8, after 9.
-fn no_call(h: Head, buf: &[u8]) -> HStep
+fn no_call(h: Head, buf: &[u8]) -> HeadStep
     ensures { λ r. ⌜ ((s : List ℕ) → viewOut r s (now (buf .entry)) ≡ stepOr (view h s (now (buf .entry))) none) ⌝ }
 {
     let mode = h.mode;
     let over = past(mode, buf);
     if over != 0 {
-        return HStep {
+        return HeadStep {
             answer: over,
             head: h,
         };
     }
-    HStep { answer: 8, head: h }
+    HeadStep { answer: 8, head: h }
 }
 
 // One call. There is one call site for each function: the compiler then makes one loop of them all.
-pub fn call(h: Head, stack: &mut [u32; 64], buf: &mut [u8], op: Op, s: &[u8]) -> HStep
+pub fn call(h: Head, stack: &mut [u32; 64], buf: &mut [u8], op: Op, s: &[u8]) -> HeadStep
     ensures { λ r. ⌜ viewOut r (now (stack .exit)) (now (buf .exit)) ≡ stepOr (view h (now (stack .entry)) (now (buf .entry))) (callOf op (now (s .entry))) ⌝ }
 {
     match op {
@@ -230,7 +230,7 @@ pub fn call_at(
     buf: &mut [u8],
     words: [u64; 5],
     text: &[u8],
-) -> HStep
+) -> HeadStep
     ensures { λ r. ⌜ viewOut r (now (stack .exit)) (now (buf .exit)) ≡ stepOr (view h (now (stack .entry)) (now (buf .entry))) (callAt (getD words 0 0) (getD words 1 0) (getD words 2 0) (getD words 3 0) (getD words 4 0) (now (text .entry))) ⌝ }
 {
     let at = words[1] as usize;

@@ -12,12 +12,12 @@ use Rattle.str_writer.specs.Write.{outcome, placed}
 use Rattle.agreement.specs.declared.Kind.{Kind}
 use Rattle.agreement.specs.declared.Entry.{Entry}
 use Rattle.agreement.specs.declared.Entry.the-variants.{Builder as builder, Outer as outer}
-use Rattle.agreement.specs.Model.{Mode, counting, writing, Dev, Put, to, most, wrote, putIn, put, hold, tries}
+use Rattle.agreement.specs.Model.{Mode, counting, writing, Output, PieceOutcome, to, most, wrote, putIn, put, hold, tries}
 use Rattle.writer_backend.specs.Pieces.{tryAll}
 use Rattle.writer_backend.proofs.Sequence.{tried}
 use Rattle.formatter.specs.Entries.{byTag, entryOf}
 
-put-below : (d : Dev) (t : List ℕ) → put d t .answer < 8
+put-below : (d : Output) (t : List ℕ) → put d t .answer < 8
 unfolding placed
 put-below d t = by-mode (d .mode)
   where
@@ -37,15 +37,15 @@ hold-below : (a b : ℕ) → a < 8 → b < 8 → hold a b < 8
 hold-below zero b p q = q
 hold-below (suc a) b p q = p
 
-tries-below : (d : Dev) (ts : List (List ℕ)) → tries d ts .answer < 8
+tries-below : (d : Output) (ts : List (List ℕ)) → tries d ts .answer < 8
 tries-below d [] = omega arith
-tries-below d (t ∷ ts) = hold-below (put d t .answer) (tries (put d t .dev) ts .answer) (put-below d t) (tries-below (put d t .dev) ts)
+tries-below d (t ∷ ts) = hold-below (put d t .answer) (tries (put d t .output) ts .answer) (put-below d t) (tries-below (put d t .output) ts)
 
 -- what an opening leaves in its builder, and a field or an entry
-pub opened-below : {r : Put} (d : Dev) (ts : List (List ℕ)) → r ≡ tries d ts → r .answer < 8
+pub opened-below : {r : PieceOutcome} (d : Output) (ts : List (List ℕ)) → r ≡ tries d ts → r .answer < 8
 opened-below d ts e = rw e (tries-below d ts)
 
-pub placed-below : {r : Put} (a : ℕ) (d : Dev) (ts : List (List ℕ)) → a < 8 → r ≡ tryAll (record { answer = a; dev = d }) ts → r .answer < 8
+pub placed-below : {r : PieceOutcome} (a : ℕ) (d : Output) (ts : List (List ℕ)) → a < 8 → r ≡ tryAll (record { answer = a; output = d }) ts → r .answer < 8
 placed-below a d ts h e = rw (e, tried a d ts) (hold-below a (tries d ts .answer) h (tries-below d ts))
 
 -- what an entry holds

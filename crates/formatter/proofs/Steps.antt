@@ -16,9 +16,9 @@ use Rattle.agreement.specs.declared.Kind.{Kind}
 use Rattle.agreement.specs.declared.Entry.{Entry}
 use Rattle.agreement.specs.declared.Entry.the-variants.{Builder as builder, Outer as outer}
 use Rattle.agreement.specs.Call.{Place, Call, opens, place, value, sub, endsub, finish, nameOf, valueFault, cutNumber, nameFault, openFault, placeFault}
-use Rattle.agreement.specs.Model.{Put, putValue, hold, cutIn, tries, stops, namePieces, placePieces, closePieces, State, Out, guard, beyond, readyTop, finishAt, stepIn, step}
+use Rattle.agreement.specs.Model.{PieceOutcome, putValue, hold, cutIn, tries, stops, namePieces, placePieces, closePieces, State, Out, guard, beyond, readyTop, finishAt, stepIn, step}
 use Rattle.writer_backend.specs.declared.pieces.Wrote.{Wrote}
-use Rattle.writer_backend.specs.Output.{modeOf, devOf, putOut}
+use Rattle.writer_backend.specs.Output.{modeOf, outputOf, putOut}
 use Rattle.writer_backend.specs.Pieces.{tryAll}
 use Rattle.writer_backend.specs.Values.{unlessFault, valueOut}
 use Rattle.writer_backend.proofs.Sequence.{tried}
@@ -110,32 +110,32 @@ module _ (h : Head) (s b : List ℕ) (o : ℕ) (eo : o ≡ beyond (modeOf (h .mo
           pub finish-held : (g ≡ 0 → ⊥) → viewOut (record { answer = g; head = record { mode = h .mode; flags = h .flags; margin = h .margin; depth = d - 1 } }) s b ≡ step (view h s b) finish
           finish-held n = inner finish _ (rw (top (builder k has g) q, below) (go g n))
             where
-              go : (y : ℕ) → (y ≡ 0 → ⊥) → record { answer = y; state = record { dev = devOf (h .mode) b; flags = flagsOf (h .flags); margin = marginOf (h .margin); stack = stackOf s (d - 1) } }
-                  ≡ finishAt (record { dev = devOf (h .mode) b; flags = flagsOf (h .flags); margin = marginOf (h .margin); stack = builder k has g ∷ stackOf s (d - 1) }) (builder k has y ∷ stackOf s (d - 1))
+              go : (y : ℕ) → (y ≡ 0 → ⊥) → record { answer = y; state = record { output = outputOf (h .mode) b; flags = flagsOf (h .flags); margin = marginOf (h .margin); stack = stackOf s (d - 1) } }
+                  ≡ finishAt (record { output = outputOf (h .mode) b; flags = flagsOf (h .flags); margin = marginOf (h .margin); stack = builder k has g ∷ stackOf s (d - 1) }) (builder k has y ∷ stackOf s (d - 1))
               go zero w = absurd (w refl)
               go (suc y) w = refl
 
           pub finish-closed : g ≡ 0 → (w : Wrote) (b' : List ℕ) (f : FormattingFlags) → f ≡ flagsOf (h .flags) → (m : ℕ) → m ≡ marginOf (h .margin) - 4
-              → putOut w b' ≡ stops (devOf (h .mode) b) (closePieces k has (f .«is_alternate») m)
+              → putOut w b' ≡ stops (outputOf (h .mode) b) (closePieces k has (f .«is_alternate») m)
               → viewOut (record { answer = w .answer; head = record { mode = w .mode; flags = h .flags; margin = m; depth = d - 1 } }) s b' ≡ step (view h s b) finish
           finish-closed n w b' f ef m em ew =
               inner finish _ (rw (top (builder k has g) q, below, n, ← em, margin-in m (omega arith))
-              (ap (λ (p : Put). record { answer = p .answer; state = record { dev = p .dev; flags = flagsOf (h .flags); margin = m; stack = stackOf s (d - 1) } }) (rw ef at ew)))
+              (ap (λ (p : PieceOutcome). record { answer = p .answer; state = record { output = p .output; flags = flagsOf (h .flags); margin = m; stack = stackOf s (d - 1) } }) (rw ef at ew)))
 
           module _ (x : Place) (n : ℕ) (en : n ≡ placeFault x k) where
             pub place-refused : (n ≡ 0 → ⊥) → viewOut (record { answer = n; head = h }) s b ≡ step (view h s b) (place x)
             place-refused p = inner (place x) _ (rw (top (builder k has g) q, ← en) (guard-on n _ _ p))
 
             pub place-done : n ≡ 0 → length s ≡ 64 → (w : Wrote) (b' : List ℕ) (v : ℕ) (f : FormattingFlags) → f ≡ flagsOf (h .flags) → (m : ℕ) → m ≡ marginOf (h .margin)
-                → putOut w b' ≡ tryAll (record { answer = g; dev = devOf (h .mode) b }) (placePieces k has (f .«is_alternate») m x)
+                → putOut w b' ≡ tryAll (record { answer = g; output = outputOf (h .mode) b }) (placePieces k has (f .«is_alternate») m x)
                 → entryOf v ≡ builder k true (w .answer)
                 → viewOut (record { answer = 0; head = record { mode = w .mode; flags = h .flags; margin = h .margin; depth = d } }) (set s (d - 1) v) b' ≡ step (view h s b) (place x)
             place-done p l w b' v f ef m em ew ev =
                 let t : stackOf (set s (d - 1) v) (depthOf d) ≡ builder k true (w .answer) ∷ stackOf s (d - 1) =
                 rw (← depth-in d hd, stack-top (set s (d - 1) v) d z, getD-set-same s (d - 1) v 0 (omega arith), ev, stack-set s (d - 1) (d - 1) v (omega arith)) in
                 inner (place x) _ (rw (top (builder k has g) q, ← en, p, t, ← em)
-                (ap (λ (y : Put). record { answer = 0; state = record { dev = y .dev; flags = flagsOf (h .flags); margin = m; stack = builder k true (y .answer) ∷ stackOf s (d - 1) } })
-                (rw ef at ew ∙ tried g (devOf (h .mode) b) (placePieces k has (flagsOf (h .flags) .«is_alternate») m x))))
+                (ap (λ (y : PieceOutcome). record { answer = 0; state = record { output = y .output; flags = flagsOf (h .flags); margin = m; stack = builder k true (y .answer) ∷ stackOf s (d - 1) } })
+                (rw ef at ew ∙ tried g (outputOf (h .mode) b) (placePieces k has (flagsOf (h .flags) .«is_alternate») m x))))
 
       -- an entry more
       pushed : (v : ℕ) (x : Entry) → length s ≡ 64 → d < 64 → entryOf v ≡ x → stackOf (set s d v) (depthOf (d + 1)) ≡ x ∷ stackOf s (depthOf (h .depth))
@@ -149,12 +149,12 @@ module _ (h : Head) (s b : List ℕ) (o : ℕ) (eo : o ≡ beyond (modeOf (h .mo
         open-refused p = inner (opens k name) _ (rw (← fault) (guard-on n _ _ p))
 
         pub open-done : n ≡ 0 → length s ≡ 64 → d < 64 → m ≤ 65531 → (w : Wrote) (b' : List ℕ) (v : ℕ)
-            → putOut w b' ≡ tries (devOf (h .mode) b) (namePieces k name)
+            → putOut w b' ≡ tries (outputOf (h .mode) b) (namePieces k name)
             → entryOf v ≡ builder k false (w .answer)
             → viewOut (record { answer = 0; head = record { mode = w .mode; flags = h .flags; margin = m + 4; depth = d + 1 } }) (set s d v) b' ≡ step (view h s b) (opens k name)
         open-done p l hl hm w b' v ew ev =
             inner (opens k name) _ (rw (← fault, p, pushed v (builder k false (w .answer)) l hl ev, margin-in (m + 4) (omega arith), ← em)
-            (ap (λ (y : Put). record { answer = 0; state = record { dev = y .dev; flags = flagsOf (h .flags); margin = m + 4; stack = builder k false (y .answer) ∷ stackOf s (depthOf (h .depth)) } }) ew))
+            (ap (λ (y : PieceOutcome). record { answer = 0; state = record { output = y .output; flags = flagsOf (h .flags); margin = m + 4; stack = builder k false (y .answer) ∷ stackOf s (depthOf (h .depth)) } }) ew))
 
       -- whether a write or an opening suits
       module _ (r : Bool) (er : r ≡ readyTop (stackOf s d)) where
@@ -185,11 +185,11 @@ module _ (h : Head) (s b : List ℕ) (o : ℕ) (eo : o ≡ beyond (modeOf (h .mo
           unfolding valueOut
           value-done p w b' f ef ew =
               inner (value v) _ (rw (← is-ready, p)
-              (ap out (rw ef at ew ∙ rw (← eo, qo)) ∙ go (hold (valueFault v) (cutIn (modeOf (h .mode)) (cutNumber v))) (putValue (devOf (h .mode) b) (flagsOf (h .flags)) v)))
+              (ap out (rw ef at ew ∙ rw (← eo, qo)) ∙ go (hold (valueFault v) (cutIn (modeOf (h .mode)) (cutNumber v))) (putValue (outputOf (h .mode) b) (flagsOf (h .flags)) v)))
             where
-              out : Put → Out
-              out y = record { answer = y .answer; state = record { dev = y .dev; flags = flagsOf (h .flags); margin = marginOf (h .margin); stack = stackOf s (depthOf (h .depth)) } }
+              out : PieceOutcome → Out
+              out y = record { answer = y .answer; state = record { output = y .output; flags = flagsOf (h .flags); margin = marginOf (h .margin); stack = stackOf s (depthOf (h .depth)) } }
 
-              go : (n : ℕ) (y : Put) → out (unlessFault n (devOf (h .mode) b) y) ≡ guard n (view h s b) (out y)
+              go : (n : ℕ) (y : PieceOutcome) → out (unlessFault n (outputOf (h .mode) b) y) ≡ guard n (view h s b) (out y)
               go zero y = refl
               go (suc n) y = refl

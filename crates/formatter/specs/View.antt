@@ -7,10 +7,10 @@ use lib.ListN.{getD}
 use Rattle.formatting.specs.FlagsAsNumber.{flagsOf}
 use Rattle.agreement.specs.declared.Entry.{Entry}
 use Rattle.agreement.specs.Model.{State, Out}
-use Rattle.writer_backend.specs.Output.{devOf}
+use Rattle.writer_backend.specs.Output.{outputOf}
 use Rattle.formatter.specs.Entries.{entryOf}
 use Rattle.formatter.specs.declared.head.Head.{Head}
-use Rattle.formatter.specs.declared.head.HStep.{HStep}
+use Rattle.formatter.specs.declared.head.HeadStep.{HeadStep}
 
 -- Document 01, 'Rust forms that cannot come along': the first d numbers of the stack, the innermost (the last) first
 abbrev pub stackOf : List ℕ → ℕ → List Entry
@@ -27,8 +27,8 @@ marginOf m = m % 65536
 
 -- Document 01, 'A nested record': the formatter that a head, its stack and the lent bytes are
 abbrev pub view : Head → List ℕ → List ℕ → State
-view h s b = record { dev = devOf (h .mode) b; flags = flagsOf (h .flags); margin = marginOf (h .margin); stack = stackOf s (depthOf (h .depth)) }
+view h s b = record { output = outputOf (h .mode) b; flags = flagsOf (h .flags); margin = marginOf (h .margin); stack = stackOf s (depthOf (h .depth)) }
 
 -- Document 01, 'Rust forms that cannot come along': what a call answers, with the stack and the bytes as they then are
-abbrev pub viewOut : HStep → List ℕ → List ℕ → Out
+abbrev pub viewOut : HeadStep → List ℕ → List ℕ → Out
 viewOut r s b = record { answer = r .answer; state = view (r .head) s b }

@@ -21,7 +21,7 @@ use formatting::FormattingFlags;
 use formatting::flags_number;
 use formatting::flags_of;
 use writer_backend::PVariant;
-use writer_backend::Spot;
+use writer_backend::PlaceKind;
 use writer_backend::WriterBackend;
 use writer_backend::Wrote;
 use writer_backend::close;
@@ -70,7 +70,7 @@ impl Head {
 }
 
 // What a call answers, by document 01's number, and the formatter then.
-pub struct HStep {
+pub struct HeadStep {
     pub answer: u8,
     pub head: Head,
 }
@@ -110,29 +110,35 @@ fn entry_in(stack: &[u32], i: usize) -> Entry
 }
 
 // A field or an entry.
-pub fn place_at(h: Head, stack: &mut [u32; 64], buf: &mut [u8], p: Spot, name: &[u8]) -> HStep
+pub fn place_at(
+    h: Head,
+    stack: &mut [u32; 64],
+    buf: &mut [u8],
+    p: PlaceKind,
+    name: &[u8],
+) -> HeadStep
     ensures { λ r. ⌜ viewOut r (now (stack .exit)) (now (buf .exit)) ≡ step (view h (now (stack .entry)) (now (buf .entry))) (place (placeOf p (now (name .entry)))) ⌝ }
 {
     let mode = h.mode;
     let over = past(mode, buf);
     if over != 0 {
-        return HStep {
+        return HeadStep {
             answer: over,
             head: h,
         };
     }
     let d = depth_of(h.depth);
     if d == 0 {
-        return HStep { answer: 8, head: h };
+        return HeadStep { answer: 8, head: h };
     }
     let i = d - 1;
     let e = entry_in(stack, i);
     match e {
-        Entry::Outer(_, _) => HStep { answer: 8, head: h },
+        Entry::Outer(_, _) => HeadStep { answer: 8, head: h },
         Entry::Builder(k, has, held) => {
             let fault = place_fault(p, k, name);
             if fault != 0 {
-                return HStep {
+                return HeadStep {
                     answer: fault,
                     head: h,
                 };
@@ -143,7 +149,7 @@ pub fn place_at(h: Head, stack: &mut [u32; 64], buf: &mut [u8], p: Spot, name: &
             let w = place_pieces(t, buf, k, has, flags.is_alternate, margin, p, name);
             stack[i] = pack_builder(k, true, w.answer);
             let after = w.mode;
-            HStep {
+            HeadStep {
                 answer: 0,
                 head: Head {
                     mode: after,
@@ -162,28 +168,28 @@ fn lower(margin: u16) -> u16
     if margin < 4 { 0 } else { margin - 4 }
 }
 
-pub fn finish_at(h: Head, stack: &mut [u32; 64], buf: &mut [u8]) -> HStep
+pub fn finish_at(h: Head, stack: &mut [u32; 64], buf: &mut [u8]) -> HeadStep
     ensures { λ r. ⌜ viewOut r (now (stack .exit)) (now (buf .exit)) ≡ step (view h (now (stack .entry)) (now (buf .entry))) finish ⌝ }
 {
     let mode = h.mode;
     let over = past(mode, buf);
     if over != 0 {
-        return HStep {
+        return HeadStep {
             answer: over,
             head: h,
         };
     }
     let d = depth_of(h.depth);
     if d == 0 {
-        return HStep { answer: 8, head: h };
+        return HeadStep { answer: 8, head: h };
     }
     let i = d - 1;
     let e = entry_in(stack, i);
     match e {
-        Entry::Outer(_, _) => HStep { answer: 8, head: h },
+        Entry::Outer(_, _) => HeadStep { answer: 8, head: h },
         Entry::Builder(k, has, held) => {
             if held != 0 {
-                return HStep {
+                return HeadStep {
                     answer: held,
                     head: Head {
                         mode,
@@ -197,7 +203,7 @@ pub fn finish_at(h: Head, stack: &mut [u32; 64], buf: &mut [u8]) -> HStep
             let low = lower(h.margin());
             let w = close(mode, buf, k, has, flags.is_alternate, low as usize);
             let after = w.mode;
-            HStep {
+            HeadStep {
                 answer: w.answer,
                 head: Head {
                     mode: after,
@@ -230,13 +236,13 @@ fn open_fault(stack: &[u32], d: usize, margin: u16, k: Kind, name: &[u8]) -> u8
     0
 }
 
-pub fn open_at(h: Head, stack: &mut [u32; 64], buf: &mut [u8], k: Kind, name: &[u8]) -> HStep
+pub fn open_at(h: Head, stack: &mut [u32; 64], buf: &mut [u8], k: Kind, name: &[u8]) -> HeadStep
     ensures { λ r. ⌜ viewOut r (now (stack .exit)) (now (buf .exit)) ≡ step (view h (now (stack .entry)) (now (buf .entry))) (opens k (now (name .entry))) ⌝ }
 {
     let mode = h.mode;
     let over = past(mode, buf);
     if over != 0 {
-        return HStep {
+        return HeadStep {
             answer: over,
             head: h,
         };
@@ -245,7 +251,7 @@ pub fn open_at(h: Head, stack: &mut [u32; 64], buf: &mut [u8], k: Kind, name: &[
     let margin = h.margin();
     let fault = open_fault(stack, d, margin, k, name);
     if fault != 0 {
-        return HStep {
+        return HeadStep {
             answer: fault,
             head: h,
         };
@@ -253,7 +259,7 @@ pub fn open_at(h: Head, stack: &mut [u32; 64], buf: &mut [u8], k: Kind, name: &[
     let w = put_name(mode, buf, k, name);
     stack[d] = pack_builder(k, false, w.answer);
     let after = w.mode;
-    HStep {
+    HeadStep {
         answer: 0,
         head: Head {
             mode: after,
@@ -264,28 +270,28 @@ pub fn open_at(h: Head, stack: &mut [u32; 64], buf: &mut [u8], k: Kind, name: &[
     }
 }
 
-pub fn sub_at(h: Head, stack: &mut [u32; 64], buf: &[u8], g: FormattingFlags) -> HStep
+pub fn sub_at(h: Head, stack: &mut [u32; 64], buf: &[u8], g: FormattingFlags) -> HeadStep
     ensures { λ r. ⌜ viewOut r (now (stack .exit)) (now (buf .entry)) ≡ step (view h (now (stack .entry)) (now (buf .entry))) (sub g) ⌝ }
 {
     let mode = h.mode;
     let over = past(mode, buf);
     if over != 0 {
-        return HStep {
+        return HeadStep {
             answer: over,
             head: h,
         };
     }
     let d = depth_of(h.depth);
     if !ready(stack, d) {
-        return HStep { answer: 8, head: h };
+        return HeadStep { answer: 8, head: h };
     }
     if 64 <= d {
-        return HStep { answer: 7, head: h };
+        return HeadStep { answer: 7, head: h };
     }
     let flags = h.flags();
     let margin = h.margin();
     stack[d] = pack_outer(flags, margin);
-    HStep {
+    HeadStep {
         answer: 0,
         head: Head {
             mode,
@@ -296,26 +302,26 @@ pub fn sub_at(h: Head, stack: &mut [u32; 64], buf: &[u8], g: FormattingFlags) ->
     }
 }
 
-pub fn endsub_at(h: Head, stack: &[u32; 64], buf: &[u8]) -> HStep
+pub fn endsub_at(h: Head, stack: &[u32; 64], buf: &[u8]) -> HeadStep
     ensures { λ r. ⌜ viewOut r (now (stack .entry)) (now (buf .entry)) ≡ step (view h (now (stack .entry)) (now (buf .entry))) endsub ⌝ }
 {
     let mode = h.mode;
     let over = past(mode, buf);
     if over != 0 {
-        return HStep {
+        return HeadStep {
             answer: over,
             head: h,
         };
     }
     let d = depth_of(h.depth);
     if d == 0 {
-        return HStep { answer: 8, head: h };
+        return HeadStep { answer: 8, head: h };
     }
     let i = d - 1;
     let e = entry_in(stack, i);
     match e {
-        Entry::Builder(_, _, _) => HStep { answer: 8, head: h },
-        Entry::Outer(flags, margin) => HStep {
+        Entry::Builder(_, _, _) => HeadStep { answer: 8, head: h },
+        Entry::Outer(flags, margin) => HeadStep {
             answer: 0,
             head: Head {
                 mode,
@@ -328,23 +334,23 @@ pub fn endsub_at(h: Head, stack: &[u32; 64], buf: &[u8]) -> HStep
 }
 
 // A value, whose text is lent beside it.
-pub fn value_at(h: Head, stack: &[u32; 64], buf: &mut [u8], v: PVariant, s: &[u8]) -> HStep
+pub fn value_at(h: Head, stack: &[u32; 64], buf: &mut [u8], v: PVariant, s: &[u8]) -> HeadStep
     ensures { λ r. ⌜ viewOut r (now (stack .entry)) (now (buf .exit)) ≡ step (view h (now (stack .entry)) (now (buf .entry))) (value (valueOf v (now (s .entry)))) ⌝ }
 {
     let mode = h.mode;
     let over = past(mode, buf);
     if over != 0 {
-        return HStep {
+        return HeadStep {
             answer: over,
             head: h,
         };
     }
     if !ready(stack, depth_of(h.depth)) {
-        return HStep { answer: 8, head: h };
+        return HeadStep { answer: 8, head: h };
     }
     let w = put_value(mode, h.flags(), buf, v, s);
     let after = w.mode;
-    HStep {
+    HeadStep {
         answer: w.answer,
         head: Head {
             mode: after,

@@ -3,8 +3,8 @@
 mod entries;
 mod head;
 
-pub use head::HStep;
 pub use head::Head;
+pub use head::HeadStep;
 pub use head::endsub_at;
 pub use head::finish_at;
 pub use head::open_at;

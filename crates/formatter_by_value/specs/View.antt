@@ -8,14 +8,14 @@ use Rattle.formatting.specs.declared.flags.FormattingFlags.{FormattingFlags}
 use Rattle.agreement.specs.Model.{State, Out, start, writing}
 use Rattle.formatter.specs.View.{view}
 use Rattle.formatter_by_value.specs.declared.Formatter.{Formatter}
-use Rattle.formatter_by_value.specs.declared.FStep.{FStep}
+use Rattle.formatter_by_value.specs.declared.FormatterStep.{FormatterStep}
 
 -- Document 01, 'Rust forms that cannot come along': the stack of open entries in the formatter
 abbrev pub viewF : Formatter → List ℕ → State
 viewF f b = view (f .head) (f .stack) b
 
 -- Document 01, 'Rust forms that cannot come along': what a call on a formatter by value answers
-abbrev pub viewFOut : FStep → List ℕ → Out
+abbrev pub viewFOut : FormatterStep → List ℕ → Out
 viewFOut r b = record { answer = r .answer; state = viewF (r .fmt) b }
 
 -- Document 01, 'A nested record': a run starts fresh, cursor p over bytes of any content; 9 where the cursor exceeds the buffer's length

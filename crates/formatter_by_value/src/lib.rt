@@ -25,7 +25,7 @@ use utils::Range;
 use writer_backend::Form;
 use writer_backend::Integer;
 use writer_backend::PVariant;
-use writer_backend::Spot;
+use writer_backend::PlaceKind;
 use writer_backend::Width;
 use writer_backend::WriterBackend;
 
@@ -35,7 +35,7 @@ pub struct Formatter {
 }
 
 // What a call answers, by document 01's number, and the formatter then.
-pub struct FStep {
+pub struct FormatterStep {
     pub answer: u8,
     pub fmt: Formatter,
 }
@@ -56,7 +56,7 @@ impl Formatter {
     }
 
     // A fresh formatter that writes from a cursor in a buffer; 9 where the cursor is past its end.
-    pub fn writing(buf: &[u8], at: usize, flags: FormattingFlags) -> FStep
+    pub fn writing(buf: &[u8], at: usize, flags: FormattingFlags) -> FormatterStep
         ensures { λ r. ⌜ viewFOut r (now (buf .entry)) ≡ begun (now (buf .entry)) at flags ⌝ }
     {
         let mode = WriterBackend {
@@ -68,9 +68,9 @@ impl Formatter {
             stack: [0u32; 64],
         };
         if buf.len() < at {
-            return FStep { answer: 9, fmt };
+            return FormatterStep { answer: 9, fmt };
         }
-        FStep { answer: 0, fmt }
+        FormatterStep { answer: 0, fmt }
     }
 
     // The flags in force.
@@ -89,157 +89,157 @@ impl Formatter {
         head.margin()
     }
 
-    pub fn debug_struct(self, buf: &mut [u8], name: &[u8]) -> FStep
+    pub fn debug_struct(self, buf: &mut [u8], name: &[u8]) -> FormatterStep
         ensures { λ r. ⌜ viewFOut r (now (buf .exit)) ≡ step (viewF self (now (buf .entry))) (opens Struct (now (name .entry))) ⌝ }
     {
         let head = self.head;
         let mut stack = self.stack;
         let r = open_at(head, &mut stack, buf, Kind::Struct, name);
         let after = r.head;
-        FStep {
+        FormatterStep {
             answer: r.answer,
             fmt: Formatter { head: after, stack },
         }
     }
 
-    pub fn debug_tuple(self, buf: &mut [u8], name: &[u8]) -> FStep
+    pub fn debug_tuple(self, buf: &mut [u8], name: &[u8]) -> FormatterStep
         ensures { λ r. ⌜ viewFOut r (now (buf .exit)) ≡ step (viewF self (now (buf .entry))) (opens Tuple (now (name .entry))) ⌝ }
     {
         let head = self.head;
         let mut stack = self.stack;
         let r = open_at(head, &mut stack, buf, Kind::Tuple, name);
         let after = r.head;
-        FStep {
+        FormatterStep {
             answer: r.answer,
             fmt: Formatter { head: after, stack },
         }
     }
 
-    pub fn debug_list(self, buf: &mut [u8]) -> FStep
+    pub fn debug_list(self, buf: &mut [u8]) -> FormatterStep
         ensures { λ r. ⌜ viewFOut r (now (buf .exit)) ≡ step (viewF self (now (buf .entry))) (opens kind.List []) ⌝ }
     {
         let head = self.head;
         let mut stack = self.stack;
         let r = open_at(head, &mut stack, buf, Kind::List, b"");
         let after = r.head;
-        FStep {
+        FormatterStep {
             answer: r.answer,
             fmt: Formatter { head: after, stack },
         }
     }
 
-    pub fn debug_set(self, buf: &mut [u8]) -> FStep
+    pub fn debug_set(self, buf: &mut [u8]) -> FormatterStep
         ensures { λ r. ⌜ viewFOut r (now (buf .exit)) ≡ step (viewF self (now (buf .entry))) (opens Set []) ⌝ }
     {
         let head = self.head;
         let mut stack = self.stack;
         let r = open_at(head, &mut stack, buf, Kind::Set, b"");
         let after = r.head;
-        FStep {
+        FormatterStep {
             answer: r.answer,
             fmt: Formatter { head: after, stack },
         }
     }
 
     // A field of a struct.
-    pub fn field(self, buf: &mut [u8], name: &[u8]) -> FStep
+    pub fn field(self, buf: &mut [u8], name: &[u8]) -> FormatterStep
         ensures { λ r. ⌜ viewFOut r (now (buf .exit)) ≡ step (viewF self (now (buf .entry))) (place (field (now (name .entry)))) ⌝ }
     {
         let head = self.head;
         let mut stack = self.stack;
-        let r = place_at(head, &mut stack, buf, Spot::Field, name);
+        let r = place_at(head, &mut stack, buf, PlaceKind::Field, name);
         let after = r.head;
-        FStep {
+        FormatterStep {
             answer: r.answer,
             fmt: Formatter { head: after, stack },
         }
     }
 
     // A field of a tuple.
-    pub fn tuple_field(self, buf: &mut [u8]) -> FStep
+    pub fn tuple_field(self, buf: &mut [u8]) -> FormatterStep
         ensures { λ r. ⌜ viewFOut r (now (buf .exit)) ≡ step (viewF self (now (buf .entry))) (place item) ⌝ }
     {
         let head = self.head;
         let mut stack = self.stack;
-        let r = place_at(head, &mut stack, buf, Spot::Item, b"");
+        let r = place_at(head, &mut stack, buf, PlaceKind::Item, b"");
         let after = r.head;
-        FStep {
+        FormatterStep {
             answer: r.answer,
             fmt: Formatter { head: after, stack },
         }
     }
 
     // An entry of a list or a set.
-    pub fn entry(self, buf: &mut [u8]) -> FStep
+    pub fn entry(self, buf: &mut [u8]) -> FormatterStep
         ensures { λ r. ⌜ viewFOut r (now (buf .exit)) ≡ step (viewF self (now (buf .entry))) (place entry) ⌝ }
     {
         let head = self.head;
         let mut stack = self.stack;
-        let r = place_at(head, &mut stack, buf, Spot::Entry, b"");
+        let r = place_at(head, &mut stack, buf, PlaceKind::Entry, b"");
         let after = r.head;
-        FStep {
+        FormatterStep {
             answer: r.answer,
             fmt: Formatter { head: after, stack },
         }
     }
 
     // Closes the innermost builder.
-    pub fn finish(self, buf: &mut [u8]) -> FStep
+    pub fn finish(self, buf: &mut [u8]) -> FormatterStep
         ensures { λ r. ⌜ viewFOut r (now (buf .exit)) ≡ step (viewF self (now (buf .entry))) (finish) ⌝ }
     {
         let head = self.head;
         let mut stack = self.stack;
         let r = finish_at(head, &mut stack, buf);
         let after = r.head;
-        FStep {
+        FormatterStep {
             answer: r.answer,
             fmt: Formatter { head: after, stack },
         }
     }
 
     // Opens a sub-formatter with flags of its own.
-    pub fn make_formatter(self, buf: &mut [u8], flags: FormattingFlags) -> FStep
+    pub fn make_formatter(self, buf: &mut [u8], flags: FormattingFlags) -> FormatterStep
         ensures { λ r. ⌜ viewFOut r (now (buf .exit)) ≡ step (viewF self (now (buf .entry))) (sub flags) ⌝ }
     {
         let head = self.head;
         let mut stack = self.stack;
         let r = sub_at(head, &mut stack, buf, flags);
         let after = r.head;
-        FStep {
+        FormatterStep {
             answer: r.answer,
             fmt: Formatter { head: after, stack },
         }
     }
 
     // Closes the innermost sub-formatter: the outer flags and margin return.
-    pub fn end_formatter(self, buf: &mut [u8]) -> FStep
+    pub fn end_formatter(self, buf: &mut [u8]) -> FormatterStep
         ensures { λ r. ⌜ viewFOut r (now (buf .exit)) ≡ step (viewF self (now (buf .entry))) (endsub) ⌝ }
     {
         let head = self.head;
         let stack = self.stack;
         let r = endsub_at(head, &stack, buf);
         let after = r.head;
-        FStep {
+        FormatterStep {
             answer: r.answer,
             fmt: Formatter { head: after, stack },
         }
     }
 
     // A value, whose text is lent beside it.
-    fn value(self, buf: &mut [u8], v: PVariant, s: &[u8]) -> FStep
+    fn value(self, buf: &mut [u8], v: PVariant, s: &[u8]) -> FormatterStep
         ensures { λ r. ⌜ viewFOut r (now (buf .exit)) ≡ step (viewF self (now (buf .entry))) (value (valueOf v (now (s .entry)))) ⌝ }
     {
         let head = self.head;
         let stack = self.stack;
         let r = value_at(head, &stack, buf, v, s);
         let after = r.head;
-        FStep {
+        FormatterStep {
             answer: r.answer,
             fmt: Formatter { head: after, stack },
         }
     }
 
-    pub fn write_str(self, buf: &mut [u8], s: &[u8]) -> FStep
+    pub fn write_str(self, buf: &mut [u8], s: &[u8]) -> FormatterStep
         ensures { λ r. ⌜ viewFOut r (now (buf .exit)) ≡ step (viewF self (now (buf .entry))) (value (str display (now (s .entry)) (whole (now (s .entry))))) ⌝ }
     {
         let end = s.len();
@@ -250,13 +250,13 @@ impl Formatter {
         )
     }
 
-    pub fn write_str_range(self, buf: &mut [u8], s: &[u8], range: Range) -> FStep
+    pub fn write_str_range(self, buf: &mut [u8], s: &[u8], range: Range) -> FormatterStep
         ensures { λ r. ⌜ viewFOut r (now (buf .exit)) ≡ step (viewF self (now (buf .entry))) (value (str display (now (s .entry)) range)) ⌝ }
     {
         self.value(buf, PVariant::Str(Form::Display, range), s)
     }
 
-    pub fn write_ascii(self, buf: &mut [u8], s: &[u8]) -> FStep
+    pub fn write_ascii(self, buf: &mut [u8], s: &[u8]) -> FormatterStep
         ensures { λ r. ⌜ viewFOut r (now (buf .exit)) ≡ step (viewF self (now (buf .entry))) (value (ascii display (now (s .entry)) (whole (now (s .entry))))) ⌝ }
     {
         let end = s.len();
@@ -267,32 +267,32 @@ impl Formatter {
         )
     }
 
-    pub fn write_ascii_range(self, buf: &mut [u8], s: &[u8], range: Range) -> FStep
+    pub fn write_ascii_range(self, buf: &mut [u8], s: &[u8], range: Range) -> FormatterStep
         ensures { λ r. ⌜ viewFOut r (now (buf .exit)) ≡ step (viewF self (now (buf .entry))) (value (ascii display (now (s .entry)) range)) ⌝ }
     {
         self.value(buf, PVariant::Ascii(Form::Display, range), s)
     }
 
-    pub fn write_char(self, buf: &mut [u8], c: u32) -> FStep
+    pub fn write_char(self, buf: &mut [u8], c: u32) -> FormatterStep
         ensures { λ r. ⌜ viewFOut r (now (buf .exit)) ≡ step (viewF self (now (buf .entry))) (value (char display c)) ⌝ }
     {
         self.value(buf, PVariant::Char(Form::Display, c), b"")
     }
 
-    pub fn write_str_debug(self, buf: &mut [u8], s: &[u8]) -> FStep
+    pub fn write_str_debug(self, buf: &mut [u8], s: &[u8]) -> FormatterStep
         ensures { λ r. ⌜ viewFOut r (now (buf .exit)) ≡ step (viewF self (now (buf .entry))) (value (str debug (now (s .entry)) (whole (now (s .entry))))) ⌝ }
     {
         let end = s.len();
         self.value(buf, PVariant::Str(Form::Debug, Range { start: 0, end }), s)
     }
 
-    pub fn write_str_range_debug(self, buf: &mut [u8], s: &[u8], range: Range) -> FStep
+    pub fn write_str_range_debug(self, buf: &mut [u8], s: &[u8], range: Range) -> FormatterStep
         ensures { λ r. ⌜ viewFOut r (now (buf .exit)) ≡ step (viewF self (now (buf .entry))) (value (str debug (now (s .entry)) range)) ⌝ }
     {
         self.value(buf, PVariant::Str(Form::Debug, range), s)
     }
 
-    pub fn write_ascii_debug(self, buf: &mut [u8], s: &[u8]) -> FStep
+    pub fn write_ascii_debug(self, buf: &mut [u8], s: &[u8]) -> FormatterStep
         ensures { λ r. ⌜ viewFOut r (now (buf .exit)) ≡ step (viewF self (now (buf .entry))) (value (ascii debug (now (s .entry)) (whole (now (s .entry))))) ⌝ }
     {
         let end = s.len();
@@ -303,25 +303,25 @@ impl Formatter {
         )
     }
 
-    pub fn write_ascii_range_debug(self, buf: &mut [u8], s: &[u8], range: Range) -> FStep
+    pub fn write_ascii_range_debug(self, buf: &mut [u8], s: &[u8], range: Range) -> FormatterStep
         ensures { λ r. ⌜ viewFOut r (now (buf .exit)) ≡ step (viewF self (now (buf .entry))) (value (ascii debug (now (s .entry)) range)) ⌝ }
     {
         self.value(buf, PVariant::Ascii(Form::Debug, range), s)
     }
 
-    pub fn write_char_debug(self, buf: &mut [u8], c: u32) -> FStep
+    pub fn write_char_debug(self, buf: &mut [u8], c: u32) -> FormatterStep
         ensures { λ r. ⌜ viewFOut r (now (buf .exit)) ≡ step (viewF self (now (buf .entry))) (value (char debug c)) ⌝ }
     {
         self.value(buf, PVariant::Char(Form::Debug, c), b"")
     }
 
-    pub fn write_ascii_repeated(self, buf: &mut [u8], c: u8, n: usize) -> FStep
+    pub fn write_ascii_repeated(self, buf: &mut [u8], c: u8, n: usize) -> FormatterStep
         ensures { λ r. ⌜ viewFOut r (now (buf .exit)) ≡ step (viewF self (now (buf .entry))) (value (repeated c n)) ⌝ }
     {
         self.value(buf, PVariant::Repeated(c, n), b"")
     }
 
-    pub fn write_u8_display(self, buf: &mut [u8], x: u8) -> FStep
+    pub fn write_u8_display(self, buf: &mut [u8], x: u8) -> FormatterStep
         ensures { λ r. ⌜ viewFOut r (now (buf .exit)) ≡ step (viewF self (now (buf .entry))) (value (integer display 8 (pos x))) ⌝ }
     {
         self.value(
@@ -331,7 +331,7 @@ impl Formatter {
         )
     }
 
-    pub fn write_u8_debug(self, buf: &mut [u8], x: u8) -> FStep
+    pub fn write_u8_debug(self, buf: &mut [u8], x: u8) -> FormatterStep
         ensures { λ r. ⌜ viewFOut r (now (buf .exit)) ≡ step (viewF self (now (buf .entry))) (value (integer debug 8 (pos x))) ⌝ }
     {
         self.value(
@@ -341,7 +341,7 @@ impl Formatter {
         )
     }
 
-    pub fn write_u16_display(self, buf: &mut [u8], x: u16) -> FStep
+    pub fn write_u16_display(self, buf: &mut [u8], x: u16) -> FormatterStep
         ensures { λ r. ⌜ viewFOut r (now (buf .exit)) ≡ step (viewF self (now (buf .entry))) (value (integer display 16 (pos x))) ⌝ }
     {
         self.value(
@@ -351,7 +351,7 @@ impl Formatter {
         )
     }
 
-    pub fn write_u16_debug(self, buf: &mut [u8], x: u16) -> FStep
+    pub fn write_u16_debug(self, buf: &mut [u8], x: u16) -> FormatterStep
         ensures { λ r. ⌜ viewFOut r (now (buf .exit)) ≡ step (viewF self (now (buf .entry))) (value (integer debug 16 (pos x))) ⌝ }
     {
         self.value(
@@ -361,7 +361,7 @@ impl Formatter {
         )
     }
 
-    pub fn write_u32_display(self, buf: &mut [u8], x: u32) -> FStep
+    pub fn write_u32_display(self, buf: &mut [u8], x: u32) -> FormatterStep
         ensures { λ r. ⌜ viewFOut r (now (buf .exit)) ≡ step (viewF self (now (buf .entry))) (value (integer display 32 (pos x))) ⌝ }
     {
         self.value(
@@ -371,7 +371,7 @@ impl Formatter {
         )
     }
 
-    pub fn write_u32_debug(self, buf: &mut [u8], x: u32) -> FStep
+    pub fn write_u32_debug(self, buf: &mut [u8], x: u32) -> FormatterStep
         ensures { λ r. ⌜ viewFOut r (now (buf .exit)) ≡ step (viewF self (now (buf .entry))) (value (integer debug 32 (pos x))) ⌝ }
     {
         self.value(
@@ -381,7 +381,7 @@ impl Formatter {
         )
     }
 
-    pub fn write_u64_display(self, buf: &mut [u8], x: u64) -> FStep
+    pub fn write_u64_display(self, buf: &mut [u8], x: u64) -> FormatterStep
         ensures { λ r. ⌜ viewFOut r (now (buf .exit)) ≡ step (viewF self (now (buf .entry))) (value (integer display 64 (pos x))) ⌝ }
     {
         self.value(
@@ -391,7 +391,7 @@ impl Formatter {
         )
     }
 
-    pub fn write_u64_debug(self, buf: &mut [u8], x: u64) -> FStep
+    pub fn write_u64_debug(self, buf: &mut [u8], x: u64) -> FormatterStep
         ensures { λ r. ⌜ viewFOut r (now (buf .exit)) ≡ step (viewF self (now (buf .entry))) (value (integer debug 64 (pos x))) ⌝ }
     {
         self.value(
@@ -401,7 +401,7 @@ impl Formatter {
         )
     }
 
-    pub fn write_i8_display(self, buf: &mut [u8], x: i8) -> FStep
+    pub fn write_i8_display(self, buf: &mut [u8], x: i8) -> FormatterStep
         ensures { λ r. ⌜ viewFOut r (now (buf .exit)) ≡ step (viewF self (now (buf .entry))) (value (integer display 8 x)) ⌝ }
     {
         self.value(
@@ -411,7 +411,7 @@ impl Formatter {
         )
     }
 
-    pub fn write_i8_debug(self, buf: &mut [u8], x: i8) -> FStep
+    pub fn write_i8_debug(self, buf: &mut [u8], x: i8) -> FormatterStep
         ensures { λ r. ⌜ viewFOut r (now (buf .exit)) ≡ step (viewF self (now (buf .entry))) (value (integer debug 8 x)) ⌝ }
     {
         self.value(
@@ -421,7 +421,7 @@ impl Formatter {
         )
     }
 
-    pub fn write_i16_display(self, buf: &mut [u8], x: i16) -> FStep
+    pub fn write_i16_display(self, buf: &mut [u8], x: i16) -> FormatterStep
         ensures { λ r. ⌜ viewFOut r (now (buf .exit)) ≡ step (viewF self (now (buf .entry))) (value (integer display 16 x)) ⌝ }
     {
         self.value(
@@ -431,7 +431,7 @@ impl Formatter {
         )
     }
 
-    pub fn write_i16_debug(self, buf: &mut [u8], x: i16) -> FStep
+    pub fn write_i16_debug(self, buf: &mut [u8], x: i16) -> FormatterStep
         ensures { λ r. ⌜ viewFOut r (now (buf .exit)) ≡ step (viewF self (now (buf .entry))) (value (integer debug 16 x)) ⌝ }
     {
         self.value(
@@ -441,7 +441,7 @@ impl Formatter {
         )
     }
 
-    pub fn write_i32_display(self, buf: &mut [u8], x: i32) -> FStep
+    pub fn write_i32_display(self, buf: &mut [u8], x: i32) -> FormatterStep
         ensures { λ r. ⌜ viewFOut r (now (buf .exit)) ≡ step (viewF self (now (buf .entry))) (value (integer display 32 x)) ⌝ }
     {
         self.value(
@@ -451,7 +451,7 @@ impl Formatter {
         )
     }
 
-    pub fn write_i32_debug(self, buf: &mut [u8], x: i32) -> FStep
+    pub fn write_i32_debug(self, buf: &mut [u8], x: i32) -> FormatterStep
         ensures { λ r. ⌜ viewFOut r (now (buf .exit)) ≡ step (viewF self (now (buf .entry))) (value (integer debug 32 x)) ⌝ }
     {
         self.value(
@@ -461,7 +461,7 @@ impl Formatter {
         )
     }
 
-    pub fn write_i64_display(self, buf: &mut [u8], x: i64) -> FStep
+    pub fn write_i64_display(self, buf: &mut [u8], x: i64) -> FormatterStep
         ensures { λ r. ⌜ viewFOut r (now (buf .exit)) ≡ step (viewF self (now (buf .entry))) (value (integer display 64 x)) ⌝ }
     {
         self.value(
@@ -471,7 +471,7 @@ impl Formatter {
         )
     }
 
-    pub fn write_i64_debug(self, buf: &mut [u8], x: i64) -> FStep
+    pub fn write_i64_debug(self, buf: &mut [u8], x: i64) -> FormatterStep
         ensures { λ r. ⌜ viewFOut r (now (buf .exit)) ≡ step (viewF self (now (buf .entry))) (value (integer debug 64 x)) ⌝ }
     {
         self.value(

@@ -65,7 +65,7 @@ pairs =
     -- empty list alternate `[]`
     ∷ record { text = definedText (withAlternate defaultFlags true) emptyList; known = 91 ∷ 93 ∷ [] }
     -- the sheet with n 3: the bytes are `Px7`
-    ∷ record { text = written defaultFlags sheet (replicate 3 0) 0 .state .dev .bytes; known = 80 ∷ 120 ∷ 55 ∷ [] }
+    ∷ record { text = written defaultFlags sheet (replicate 3 0) 0 .state .output .bytes; known = 80 ∷ 120 ∷ 55 ∷ [] }
     ∷ []
 
 -- 'Known pairs': each text of a list is its known bytes

@@ -14,7 +14,7 @@ use Rattle.formatting.specs.declared.escaping.Escape.the-variants.{Bare, Backsl
 use Rattle.formatting.specs.Escape.{escapeOf, escapeText, isEscaped, isLetter, escaped, quoted}
 use Rattle.utils.specs.declared.Range.{Range}
 use Rattle.utils.specs.Text.{saturated, part}
-use Rattle.pwrapper.specs.Quoted.{countOf}
+use Rattle.pwrapper.specs.QuotedCount.{countOf}
 
 clash : {A : Type 0} (t : Bool) → t ≡ true → t ≡ false → A
 clash t p q = let z : _≡_ {A = ℕ} 0 1 = cc in absurd (omega arith)

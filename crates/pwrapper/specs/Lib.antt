@@ -1,3 +1,3 @@
 pub mod Digits
 pub mod Number
-pub mod Quoted
+pub mod QuotedCount

@@ -4,7 +4,7 @@ ghost use Prim.Native.Nat.{_+_, _*_};
 ghost use lib.ListN.{length};
 ghost use Rattle.utils.specs.Text.{part};
 ghost use Rattle.formatting.specs.Escape.{quoted};
-ghost use Rattle.pwrapper.specs.Quoted.{countOf};
+ghost use Rattle.pwrapper.specs.QuotedCount.{countOf};
 use error::Answer;
 use formatting::is_backslash_escaped;
 use formatting::is_escaped;

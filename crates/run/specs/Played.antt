@@ -7,7 +7,7 @@ use Prim.Native.Nat.{ℕ, _+_, _≤_}
 use lib.ListN.{length, take, drop}
 use Rattle.formatting.specs.declared.flags.FormattingFlags.{FormattingFlags}
 use Rattle.agreement.specs.Call.{Call}
-use Rattle.agreement.specs.Model.{Dev, State, hold, most}
+use Rattle.agreement.specs.Model.{Output, State, hold, most}
 use Rattle.agreement.specs.Agreement.{Proper, definedText}
 use Rattle.encoded_call.specs.Encoding.{stepOr}
 use Rattle.run.specs.declared.Ran.{Ran}
@@ -15,11 +15,11 @@ use Rattle.run.specs.declared.Ran.{Ran}
 -- Document 01, 'A nested record': the first refusal, and the output at the end
 pub record Played : Type 0 where
   pub first : ℕ
-  pub dev : Dev
+  pub output : Output
 
 -- Document 01, 'A nested record': each call, also after a refused one, gets what the call before left
 abbrev pub playFrom : ℕ → State → List (Option Call) → Played
-playFrom a F [] = record { first = a; dev = F .dev }
+playFrom a F [] = record { first = a; output = F .output }
 playFrom a F (c ∷ cs) = let o = stepOr F c in playFrom (hold a (o .answer)) (o .state) cs
 
 -- demand 3, counting: a proper run answers 0 throughout and totals exactly the length of its defined text

@@ -3,7 +3,7 @@
 ghost use mathlib.Core.Path.{_≡_};
 ghost use mathlib.Core.List.{[]};
 ghost use Rattle.agreement.specs.Model.{start, counting, writing, beyond};
-ghost use Rattle.writer_backend.specs.Output.{devOf, modeOf};
+ghost use Rattle.writer_backend.specs.Output.{outputOf, modeOf};
 ghost use Rattle.encoded_call.specs.Encoding.{decode};
 ghost use Rattle.run.specs.Played.{playFrom, CountAgrees, WriteAgrees};
 use encoded_call::call_at;
@@ -33,7 +33,7 @@ fn play(
     calls: &[u64],
     text: &[u8],
 ) -> End
-    ensures { λ r. ⌜ record { first = r .first; dev = devOf (r .mode) (now (buf .exit)) } ≡ playFrom (beyond (modeOf mode) (now (buf .entry))) (start (modeOf mode) (now (buf .entry)) flags) (decode (now (calls .entry)) (now (text .entry))) ⌝ }
+    ensures { λ r. ⌜ record { first = r .first; output = outputOf (r .mode) (now (buf .exit)) } ≡ playFrom (beyond (modeOf mode) (now (buf .entry))) (start (modeOf mode) (now (buf .entry)) flags) (decode (now (calls .entry)) (now (text .entry))) ⌝ }
 {
     let mut stack = [0u32; 64];
     let mut head = Head::new(mode, flags);
@@ -63,7 +63,7 @@ fn play(
 
 // Counts a run from a total that there is already: its first refusal and the total at the end.
 pub fn count_run_from(total: usize, flags: FormattingFlags, calls: &[u64], text: &[u8]) -> Ran
-    ensures { λ r. ⌜ record { first = r .first; dev = record { mode = counting (r .number); bytes = [] } } ≡ playFrom 0 (start (counting total) [] flags) (decode (now (calls .entry)) (now (text .entry))) ⌝ }
+    ensures { λ r. ⌜ record { first = r .first; output = record { mode = counting (r .number); bytes = [] } } ≡ playFrom 0 (start (counting total) [] flags) (decode (now (calls .entry)) (now (text .entry))) ⌝ }
 {
     let mode = WriterBackend {
         counting: 1,
@@ -80,7 +80,7 @@ pub fn count_run_from(total: usize, flags: FormattingFlags, calls: &[u64], text:
 
 // Counts a run: its first refusal and its total.
 pub fn count_run(flags: FormattingFlags, calls: &[u64], text: &[u8]) -> Ran
-    ensures { λ r. ⌜ record { first = r .first; dev = record { mode = counting (r .number); bytes = [] } } ≡ playFrom 0 (start (counting 0) [] flags) (decode (now (calls .entry)) (now (text .entry))) ⌝ }
+    ensures { λ r. ⌜ record { first = r .first; output = record { mode = counting (r .number); bytes = [] } } ≡ playFrom 0 (start (counting 0) [] flags) (decode (now (calls .entry)) (now (text .entry))) ⌝ }
     ensures { λ r. ⌜ CountAgrees flags (decode (now (calls .entry)) (now (text .entry))) r ⌝ }
 {
     count_run_from(0, flags, calls, text)
@@ -95,7 +95,7 @@ pub fn write_run(
     calls: &[u64],
     text: &[u8],
 ) -> Ran
-    ensures { λ r. ⌜ record { first = r .first; dev = record { mode = writing (r .number); bytes = now (buf .exit) } } ≡ playFrom (beyond (writing at) (now (buf .entry))) (start (writing at) (now (buf .entry)) flags) (decode (now (calls .entry)) (now (text .entry))) ⌝ }
+    ensures { λ r. ⌜ record { first = r .first; output = record { mode = writing (r .number); bytes = now (buf .exit) } } ≡ playFrom (beyond (writing at) (now (buf .entry))) (start (writing at) (now (buf .entry)) flags) (decode (now (calls .entry)) (now (text .entry))) ⌝ }
     ensures { λ r. ⌜ WriteAgrees flags (decode (now (calls .entry)) (now (text .entry))) (now (buf .entry)) at r (now (buf .exit)) ⌝ }
 {
     let mode = WriterBackend {

@@ -13,7 +13,7 @@ use Rattle.str_writer.specs.Write.{outcome, put}
 use Rattle.writer_backend.specs.declared.pieces.WriterBackend.{WriterBackend}
 use Rattle.writer_backend.specs.Output.{asMode, modeOf}
 use Rattle.formatter.specs.declared.head.Head.{Head}
-use Rattle.formatter.specs.declared.head.HStep.{HStep}
+use Rattle.formatter.specs.declared.head.HeadStep.{HeadStep}
 use Rattle.formatter.specs.View.{view, viewOut}
 use Rattle.encoded_call.specs.Encoding.{stepOr}
 use Rattle.sheet.specs.declared.Sheet as code
@@ -33,7 +33,7 @@ empty [] h = refl
 empty (x ∷ l) h = absurd (omega arith)
 
 -- both runs play the same call
-module _ (k : ℕ) (S : code.Sheet) (s t b : List ℕ) (o : Option Call) (x y : HStep) (s' n' t' b' : List ℕ) where
+module _ (k : ℕ) (S : code.Sheet) (s t b : List ℕ) (o : Option Call) (x y : HeadStep) (s' n' t' b' : List ℕ) where
   pub both : viewOut x s' n' ≡ stepOr (view (S .counted) s []) o → length n' ≡ 0 → viewOut y t' b' ≡ stepOr (view (S .written) t b) o → (c : Call) → o ≡ some c
       → steppedOf (record { sheet = record { counted = x .head; written = y .head }; row = record { line = k; «counting_answer» = x .answer; total = x .head .mode .number; «writing_answer» = y .answer; cursor = y .head .mode .number } }) s' t' b'
       ≡ stepping k (sheetOf S s t b) c

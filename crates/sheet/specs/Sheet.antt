@@ -27,7 +27,7 @@ rowText r = cell (r .line) 44 ++ cell (r .«counting_answer») 44 ++ cell (r .to
 
 -- 'The call sheet': the row of what both runs answer
 abbrev pub rowOf : ℕ → Out → Out → Row
-rowOf k c w = record { line = k; «counting_answer» = c .answer; total = numberIn (c .state .dev .mode); «writing_answer» = w .answer; cursor = numberIn (w .state .dev .mode) }
+rowOf k c w = record { line = k; «counting_answer» = c .answer; total = numberIn (c .state .output .mode); «writing_answer» = w .answer; cursor = numberIn (w .state .output .mode) }
 
 -- 'The call sheet': the line number, a comma and `bad`
 unfoldable pub badText : ℕ → List ℕ
@@ -43,7 +43,7 @@ endLine total cursor b = bytes "end," ++ cell total 44 ++ cell cursor 44 ++ hexP
 
 -- 'The call sheet': the last line of a sheet
 abbrev pub endText : Sheet → List ℕ
-endText S = endLine (numberIn (S .counted .dev .mode)) (numberIn (S .written .dev .mode)) (take (numberIn (S .written .dev .mode)) (S .written .dev .bytes))
+endText S = endLine (numberIn (S .counted .output .mode)) (numberIn (S .written .output .mode)) (take (numberIn (S .written .output .mode)) (S .written .output .bytes))
 
 -- 'The call sheet': whether a line is a call, both runs after it, and what it prints
 pub record Stepped : Type 0 where

@@ -24,7 +24,7 @@ use numbers::num_op;
 use texts::TextCall;
 use texts::with_text;
 use writer_backend::Form;
-use writer_backend::Spot;
+use writer_backend::PlaceKind;
 
 // A call as it was read from a line, `Op::Nothing` for a line of another form, and how long its
 // text is.
@@ -44,10 +44,10 @@ fn one_field(w: &[u8]) -> Op
     ensures { λ r. ⌜ callOf r [] ≡ oneField (now (w .entry)) ⌝ }
 {
     if same(w, b"field") {
-        return Op::Place(Spot::Item);
+        return Op::Place(PlaceKind::Item);
     }
     if same(w, b"entry") {
-        return Op::Place(Spot::Entry);
+        return Op::Place(PlaceKind::Entry);
     }
     if same(w, b"finish") {
         return Op::Finish;

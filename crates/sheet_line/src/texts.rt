@@ -15,7 +15,7 @@ use fields::from_hex;
 use utils::Range;
 use writer_backend::Form;
 use writer_backend::PVariant;
-use writer_backend::Spot;
+use writer_backend::PlaceKind;
 
 // An opening with a name, a field of a struct, a string.
 pub enum TextCall {
@@ -30,7 +30,7 @@ fn op_with(t: TextCall, len: usize) -> Op
 {
     match t {
         TextCall::Open(k) => Op::Open(k),
-        TextCall::Field => Op::Place(Spot::Field),
+        TextCall::Field => Op::Place(PlaceKind::Field),
         TextCall::Str(form) => Op::Value(PVariant::Str(form, Range { start: 0, end: len })),
     }
 }

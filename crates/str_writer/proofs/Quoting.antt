@@ -13,7 +13,7 @@ use Rattle.error.specs.declared.Answer.the-variants.{Done, NotEnoughSpace}
 use Rattle.formatting.specs.declared.escaping.Escape.{Escape}
 use Rattle.formatting.specs.declared.escaping.Escape.the-variants.{Bare, Backslash, Hexadecimal}
 use Rattle.formatting.specs.Escape.{escapeOf, escapeText, escaped, quoted}
-use Rattle.str_writer.specs.Quoted.{costOf, leading, quotedLeaves}
+use Rattle.str_writer.specs.QuotedLeaves.{costOf, leading, quotedLeaves}
 use Rattle.str_writer.specs.Write.{outcome, splice, refused, placed}
 use Rattle.str_writer.proofs.Splice.{splice-nil, splice-one, splice-splice, length-splice}
 use Rattle.str_writer.proofs.Outcomes.{placed-short, placed-done}

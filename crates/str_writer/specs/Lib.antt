@@ -1,4 +1,4 @@
-pub mod Quoted
+pub mod QuotedLeaves
 pub mod Value
 pub mod Write
 pub mod Truncate

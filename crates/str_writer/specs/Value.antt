@@ -17,7 +17,7 @@ use Rattle.ascii_str.specs.declared.AsciiStr.the-variants.{Ascii, NotAsciiError
 use Rattle.ascii_str.specs.Ascii.{asciiFrom}
 use Rattle.char_encoding.specs.Char.{charDisplay, charDebug}
 use Rattle.pwrapper.specs.Number.{displayText, debugText}
-use Rattle.str_writer.specs.Quoted.{quotedLeaves}
+use Rattle.str_writer.specs.QuotedLeaves.{quotedLeaves}
 
 -- 'A nested record': display or debug
 pub data Form : Type 0 where

@@ -7,7 +7,7 @@ ghost use lib.Dec.{ltb};
 ghost use lib.ListN.{length};
 ghost use Rattle.formatting.specs.Escape.{escapeOf, escapeText, escaped, quoted};
 ghost use Rattle.formatting.specs.Flags.{defaultFlags};
-ghost use Rattle.str_writer.specs.Quoted.{costOf, leading, quotedLeaves};
+ghost use Rattle.str_writer.specs.QuotedLeaves.{costOf, leading, quotedLeaves};
 ghost use Rattle.str_writer.specs.Value.{str, ascii, debug, whole};
 ghost use Rattle.str_writer.specs.Write.{outcome, splice, placed, write};
 use crate::piece::Written;

@@ -15,7 +15,7 @@ use run::write_run;
 // Counts a run: its total is left in total.
 #[no_mangle]
 pub extern "C" fn table_text_count(flags: u64, calls: &[u64], text: &[u8], total: &mut usize) -> u8
-    ensures { λ r. ⌜ _≡_ {A = Played} (record { first = r; dev = record { mode = counting (now (total .exit)); bytes = [] } }) (playFrom 0 (start (counting 0) [] (flagsOf flags)) (decode (now (calls .entry)) (now (text .entry)))) ⌝ }
+    ensures { λ r. ⌜ _≡_ {A = Played} (record { first = r; output = record { mode = counting (now (total .exit)); bytes = [] } }) (playFrom 0 (start (counting 0) [] (flagsOf flags)) (decode (now (calls .entry)) (now (text .entry)))) ⌝ }
     ensures { λ r. ⌜ CountAgrees (flagsOf flags) (decode (now (calls .entry)) (now (text .entry))) (record { first = r; number = now (total .exit) }) ⌝ }
 {
     let r = count_run(flags_of(flags), calls, text);
@@ -32,7 +32,7 @@ pub extern "C" fn table_text_write(
     calls: &[u64],
     text: &[u8],
 ) -> u8
-    ensures { λ r. ⌜ _≡_ {A = Played} (record { first = r; dev = record { mode = writing (now (cursor .exit)); bytes = now (buf .exit) } }) (playFrom (beyond (writing (now (cursor .entry))) (now (buf .entry))) (start (writing (now (cursor .entry))) (now (buf .entry)) (flagsOf flags)) (decode (now (calls .entry)) (now (text .entry)))) ⌝ }
+    ensures { λ r. ⌜ _≡_ {A = Played} (record { first = r; output = record { mode = writing (now (cursor .exit)); bytes = now (buf .exit) } }) (playFrom (beyond (writing (now (cursor .entry))) (now (buf .entry))) (start (writing (now (cursor .entry))) (now (buf .entry)) (flagsOf flags)) (decode (now (calls .entry)) (now (text .entry)))) ⌝ }
     ensures { λ r. ⌜ WriteAgrees (flagsOf flags) (decode (now (calls .entry)) (now (text .entry))) (now (buf .entry)) (now (cursor .entry)) (record { first = r; number = now (cursor .exit) }) (now (buf .exit)) ⌝ }
 {
     let r = write_run(flags_of(flags), buf, *cursor, calls, text);

@@ -11,10 +11,10 @@ use Rattle.agreement.specs.declared.Kind.{Kind}
 use Rattle.agreement.specs.declared.Kind.the-variants.{Struct, Tuple, List as ListKind, Set}
 use Rattle.agreement.specs.Call.{Place, suits, emptyClose, plainClose, commaLine, bracket, spaces}
 use Rattle.agreement.specs.Ledger.{separator}
-use Rattle.agreement.specs.Model.{Dev, Put, counting, to, most, put, hold, goOn, tries, stops, closePieces, placePieces, labelPieces}
-use Rattle.writer_backend.specs.declared.record.Spot.{Spot}
-use Rattle.writer_backend.specs.declared.record.Spot.the-variants.{Field, Item}
-use Rattle.writer_backend.specs.declared.record.Spot.the-variants as spot
+use Rattle.agreement.specs.Model.{Output, PieceOutcome, counting, to, most, put, hold, goOn, tries, stops, closePieces, placePieces, labelPieces}
+use Rattle.writer_backend.specs.declared.record.PlaceKind.{PlaceKind}
+use Rattle.writer_backend.specs.declared.record.PlaceKind.the-variants.{Field, Item}
+use Rattle.writer_backend.specs.declared.record.PlaceKind.the-variants as place-kind
 use Rattle.writer_backend.specs.declared.pieces.WriterBackend.{WriterBackend}
 use Rattle.writer_backend.specs.Output.{modeOf}
 use Rattle.writer_backend.specs.Pieces.{tryOn, tryAll, lengthOf, marginPieces, placeOf}
@@ -25,44 +25,44 @@ held zero a q = absurd (q refl)
 held (suc h) a q = refl
 
 -- to the first refusal: one piece, a piece that is done, a piece that is refused
-stops-one : (d : Dev) (s : List ℕ) → stops d (s ∷ []) ≡ put d s
+stops-one : (d : Output) (s : List ℕ) → stops d (s ∷ []) ≡ put d s
 stops-one d s = go (put d s) (put d s .answer) refl
   where
-    go : (r : Put) (a : ℕ) → r .answer ≡ a → goOn a r (record { answer = 0; dev = r .dev }) ≡ r
-    go r zero e = λ i. record { answer = sym e i; dev = r .dev }
+    go : (r : PieceOutcome) (a : ℕ) → r .answer ≡ a → goOn a r (record { answer = 0; output = r .output }) ≡ r
+    go r zero e = λ i. record { answer = sym e i; output = r .output }
     go r (suc a) e = refl
 
-stops-on : (d : Dev) (s : List ℕ) (ss : List (List ℕ)) (r : Put) → r ≡ put d s → r .answer ≡ 0 → stops d (s ∷ ss) ≡ stops (r .dev) ss
+stops-on : (d : Output) (s : List ℕ) (ss : List (List ℕ)) (r : PieceOutcome) → r ≡ put d s → r .answer ≡ 0 → stops d (s ∷ ss) ≡ stops (r .output) ss
 stops-on d s ss r e q = rw (← e, q)
 
-stops-at : (d : Dev) (s : List ℕ) (ss : List (List ℕ)) (r : Put) → r ≡ put d s → (r .answer ≡ 0 → ⊥) → stops d (s ∷ ss) ≡ r
+stops-at : (d : Output) (s : List ℕ) (ss : List (List ℕ)) (r : PieceOutcome) → r ≡ put d s → (r .answer ≡ 0 → ⊥) → stops d (s ∷ ss) ≡ r
 stops-at d s ss r e q = rw (← e) (go (r .answer) q)
   where
-    go : (a : ℕ) → (a ≡ 0 → ⊥) → goOn a r (stops (r .dev) ss) ≡ r
+    go : (a : ℕ) → (a ≡ 0 → ⊥) → goOn a r (stops (r .output) ss) ≡ r
     go zero h = absurd (h refl)
     go (suc a) h = refl
 
-module _ (d : Dev) (k : Kind) (n : ℕ) where
-  pub close-empty : (alt : Bool) (s : List ℕ) (r : Put) → r ≡ put d s → s ≡ emptyClose k → r ≡ stops d (closePieces k false alt n)
+module _ (d : Output) (k : Kind) (n : ℕ) where
+  pub close-empty : (alt : Bool) (s : List ℕ) (r : PieceOutcome) → r ≡ put d s → s ≡ emptyClose k → r ≡ stops d (closePieces k false alt n)
   close-empty alt s r e q = e ∙ rw q (sym (stops-one d (emptyClose k)))
 
-  pub close-plain : (s : List ℕ) (r : Put) → r ≡ put d s → s ≡ plainClose k → r ≡ stops d (closePieces k true false n)
+  pub close-plain : (s : List ℕ) (r : PieceOutcome) → r ≡ put d s → s ≡ plainClose k → r ≡ stops d (closePieces k true false n)
   close-plain s r e q = e ∙ rw q (sym (stops-one d (plainClose k)))
 
-  module _ (r₁ : Put) (e₁ : r₁ ≡ put d commaLine) where
+  module _ (r₁ : PieceOutcome) (e₁ : r₁ ≡ put d commaLine) where
     pub close-first : (r₁ .answer ≡ 0 → ⊥) → r₁ ≡ stops d (closePieces k true true n)
     close-first q = sym (stops-at d commaLine (spaces n ∷ bracket k ∷ []) r₁ e₁ q)
 
-    module _ (q₁ : r₁ .answer ≡ 0) (r₂ : Put) (e₂ : r₂ ≡ put (r₁ .dev) (spaces n)) where
+    module _ (q₁ : r₁ .answer ≡ 0) (r₂ : PieceOutcome) (e₂ : r₂ ≡ put (r₁ .output) (spaces n)) where
       pub close-second : (r₂ .answer ≡ 0 → ⊥) → r₂ ≡ stops d (closePieces k true true n)
       close-second q₂ =
-          sym (stops-at (r₁ .dev) (spaces n) (bracket k ∷ []) r₂ e₂ q₂)
+          sym (stops-at (r₁ .output) (spaces n) (bracket k ∷ []) r₂ e₂ q₂)
           ∙ sym (stops-on d commaLine (spaces n ∷ bracket k ∷ []) r₁ e₁ q₁)
 
-      pub close-last : (s : List ℕ) (r₃ : Put) → r₂ .answer ≡ 0 → s ≡ bracket k → r₃ ≡ put (r₂ .dev) s → r₃ ≡ stops d (closePieces k true true n)
+      pub close-last : (s : List ℕ) (r₃ : PieceOutcome) → r₂ .answer ≡ 0 → s ≡ bracket k → r₃ ≡ put (r₂ .output) s → r₃ ≡ stops d (closePieces k true true n)
       close-last s r₃ q₂ h e₃ =
-          e₃ ∙ rw h (sym (stops-one (r₂ .dev) (bracket k)))
-          ∙ sym (stops-on (r₁ .dev) (spaces n) (bracket k ∷ []) r₂ e₂ q₂)
+          e₃ ∙ rw h (sym (stops-one (r₂ .output) (bracket k)))
+          ∙ sym (stops-on (r₁ .output) (spaces n) (bracket k ∷ []) r₂ e₂ q₂)
           ∙ sym (stops-on d commaLine (spaces n ∷ bracket k ∷ []) r₁ e₁ q₁)
 
 hold-hold : (a b c : ℕ) → hold (hold a b) c ≡ hold a (hold b c)
@@ -74,27 +74,27 @@ hold-zero zero = refl
 hold-zero (suc a) = refl
 
 -- one piece, tried
-pub tries-one : (d : Dev) (s : List ℕ) → put d s ≡ tries d (s ∷ [])
-tries-one d s = λ i. record { answer = sym (hold-zero (put d s .answer)) i; dev = put d s .dev }
+pub tries-one : (d : Output) (s : List ℕ) → put d s ≡ tries d (s ∷ [])
+tries-one d s = λ i. record { answer = sym (hold-zero (put d s .answer)) i; output = put d s .output }
 
--- a spot suits a builder by its kind alone
-pub suits-any : (p : Spot) (s : List ℕ) (k : Kind) → suits (placeOf p s) k ≡ suits (placeOf p []) k
+-- a kind of place suits a builder by its kind alone
+pub suits-any : (p : PlaceKind) (s : List ℕ) (k : Kind) → suits (placeOf p s) k ≡ suits (placeOf p []) k
 suits-any Field s Struct = refl
 suits-any Field s Tuple = refl
 suits-any Field s ListKind = refl
 suits-any Field s Set = refl
 suits-any Item s k = refl
-suits-any spot.Entry s k = refl
+suits-any place-kind.Entry s k = refl
 
 -- what goes before a field or an entry: the separator, the margin, the label
 module _ (k : Kind) (n : ℕ) (x : Place) where
-  pieces-by : (p : Put) (has alt : Bool) → tryAll (tryAll (tryOn p (separator k has alt)) (marginPieces alt n)) (labelPieces x) ≡ tryAll p (placePieces k has alt n x)
+  pieces-by : (p : PieceOutcome) (has alt : Bool) → tryAll (tryAll (tryOn p (separator k has alt)) (marginPieces alt n)) (labelPieces x) ≡ tryAll p (placePieces k has alt n x)
   pieces-by p true true = refl
   pieces-by p true false = refl
   pieces-by p false true = refl
   pieces-by p false false = refl
 
-  pub pieces-tried : (p : Put) (has alt : Bool) {s : List ℕ} {a b r : Put} → s ≡ separator k has alt → a ≡ tryOn p s → b ≡ tryAll a (marginPieces alt n) → r ≡ tryAll b (labelPieces x) → r ≡ tryAll p (placePieces k has alt n x)
+  pub pieces-tried : (p : PieceOutcome) (has alt : Bool) {s : List ℕ} {a b r : PieceOutcome} → s ≡ separator k has alt → a ≡ tryOn p s → b ≡ tryAll a (marginPieces alt n) → r ≡ tryAll b (labelPieces x) → r ≡ tryAll p (placePieces k has alt n x)
   pieces-tried p has alt e f g h = rw (h, g, f, e) (pieces-by p has alt)
 
   pub pieces-length : (has alt : Bool) → lengthOf (placePieces k has alt n x) ≡ length (separator k has alt) + lengthOf (marginPieces alt n) + lengthOf (labelPieces x)
@@ -134,9 +134,9 @@ pub tries-count : (w : WriterBackend) (b : List ℕ) (a : ℕ) (ss : List (List 
 tries-count w b a ss e l h = rw (counts (w .counting) (w .number) e, counts _ _ e, counted (w .number) b a ss (omega arith), l)
 
 -- pieces tried from a refusal already held are the model's, with that refusal first
-pub tried : (a : ℕ) (d : Dev) (ss : List (List ℕ)) → tryAll (record { answer = a; dev = d }) ss ≡ record { answer = hold a (tries d ss .answer); dev = tries d ss .dev }
+pub tried : (a : ℕ) (d : Output) (ss : List (List ℕ)) → tryAll (record { answer = a; output = d }) ss ≡ record { answer = hold a (tries d ss .answer); output = tries d ss .output }
 unfolding tryOn
-tried a d [] = λ i. record { answer = sym (hold-zero a) i; dev = d }
+tried a d [] = λ i. record { answer = sym (hold-zero a) i; output = d }
 tried a d (s ∷ ss) =
-    tried (hold a (put d s .answer)) (put d s .dev) ss
-    ∙ λ i. record { answer = hold-hold a (put d s .answer) (tries (put d s .dev) ss .answer) i; dev = tries (put d s .dev) ss .dev }
+    tried (hold a (put d s .answer)) (put d s .output) ss
+    ∙ λ i. record { answer = hold-hold a (put d s .answer) (tries (put d s .output) ss .answer) i; output = tries (put d s .output) ss .output }

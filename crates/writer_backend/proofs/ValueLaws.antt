@@ -31,7 +31,7 @@ use Rattle.ascii_str.specs.declared.AsciiStr.the-variants.{Ascii, NotAsciiError
 use Rattle.ascii_str.specs.Ascii.{asciiFrom}
 use Rattle.pwrapper.specs.declared.quoted.DebugLen.{DebugLen}
 use Rattle.pwrapper.specs.Number.{decimal, displayText, twosComplement, debugIn, debugParts}
-use Rattle.pwrapper.specs.Quoted.{countOf}
+use Rattle.pwrapper.specs.QuotedCount.{countOf}
 use Rattle.str_writer.specs.Value.{Form, display, debug, Value, integer, char, str, ascii, repeated, textOf, asciiFault, inputFault, cutFault, leaves}
 use Rattle.str_writer.specs.Write.{Outcome, placed, firstOf, unless, write}
 use Rattle.str_writer.proofs.Values.{clamped-end}
@@ -41,7 +41,7 @@ use Rattle.writer_backend.specs.declared.pieces.WriterBackend.{WriterBac
 use Rattle.writer_backend.specs.declared.value.Integer.{Integer}
 use Rattle.writer_backend.specs.declared.value.Integer.the-variants.{Unsigned, Signed}
 use Rattle.writer_backend.specs.declared.value.Parts.{Parts}
-use Rattle.writer_backend.specs.Output.{devOf, countIn}
+use Rattle.writer_backend.specs.Output.{outputOf, countIn}
 use Rattle.writer_backend.specs.Values.{bitsOf, integerOf, heededBy, textOfParts, unlessFault, valueOut}
 
 -- what a value meets is no fault, or one whose number is not 0
@@ -89,7 +89,7 @@ module _ (n : ℕ) (b : List ℕ) (f : FormattingFlags) (v : Value) where
   counted (suc t) q e k l = rw (e, l)
 
   refused : (t : ℕ) → (t ≡ 0 → ⊥) → (a : Answer) (k : ℕ) → numberOf a ≡ suc k → inputFault v ≡ some a
-      → record { answer = numberOf a; dev = devOf (record { counting = t; number = n }) b } ≡ valueOut (record { counting = t; number = n }) b f v
+      → record { answer = numberOf a; output = outputOf (record { counting = t; number = n }) b } ≡ valueOut (record { counting = t; number = n }) b f v
   unfolding valueOut
   refused zero q a k h e = absurd (q refl)
   refused (suc t) q a k h e = rw (e, h)
@@ -100,7 +100,7 @@ module _ (m : WriterBackend) (b : List ℕ) (f : FormattingFlags) (v : Value) wh
   value-counts q e {k} l = counted (m .number) b f v (m .counting) q e k l
 
   -- a fault of its input is met in counting
-  pub value-refused : (m .counting ≡ 0 → ⊥) → (a : Answer) (k : ℕ) → numberOf a ≡ suc k → inputFault v ≡ some a → record { answer = numberOf a; dev = devOf m b } ≡ valueOut m b f v
+  pub value-refused : (m .counting ≡ 0 → ⊥) → (a : Answer) (k : ℕ) → numberOf a ≡ suc k → inputFault v ≡ some a → record { answer = numberOf a; output = outputOf m b } ≡ valueOut m b f v
   value-refused q a k h e = refused (m .number) b f v (m .counting) q a k h e
 
   -- it is written as by a single write, under any flags with which its text is the same
@@ -157,7 +157,7 @@ module _ (t : List ℕ) (q : DebugLen) (e : q ≡ countOf (length (quoted t))) w
   pub quoted-length : (q .len ≡ 0 → ⊥) → q .len ≡ length (quoted t)
   quoted-length = within _ q e
 
-  pub quoted-refused : (m : WriterBackend) (b : List ℕ) → q .len ≡ 0 → record { answer = 6; dev = devOf m b } ≡ countIn m b (length (quoted t))
+  pub quoted-refused : (m : WriterBackend) (b : List ℕ) → q .len ≡ 0 → record { answer = 6; output = outputOf m b } ≡ countIn m b (length (quoted t))
   quoted-refused m b z = let h : most < length (quoted t) = above _ q e z in rw (lt-ltb most (m .number + length (quoted t)) (omega arith))
 
 -- the two's complement at a width, by the sign

@@ -3,7 +3,7 @@ use mathlib.Core.Bool.{cond}
 use mathlib.Core.List.{List}
 use Prim.Native.Nat.{ℕ, zero, suc, _+_}
 use lib.Dec.{ltb}
-use Rattle.agreement.specs.Model.{Mode, counting, writing, Dev, Put, to, most}
+use Rattle.agreement.specs.Model.{Mode, counting, writing, Output, PieceOutcome, to, most}
 use Rattle.writer_backend.specs.declared.pieces.WriterBackend.{WriterBackend}
 use Rattle.writer_backend.specs.declared.pieces.Wrote.{Wrote}
 
@@ -17,15 +17,15 @@ abbrev pub modeOf : WriterBackend → Mode
 modeOf w = asMode (w .counting) (w .number)
 
 -- Document 01, 'Rust forms that cannot come along': the buffer lent beside it
-abbrev pub devOf : WriterBackend → List ℕ → Dev
-devOf w b = record { mode = modeOf w; bytes = b }
+abbrev pub outputOf : WriterBackend → List ℕ → Output
+outputOf w b = record { mode = modeOf w; bytes = b }
 
 -- Document 01, 'Rust forms that cannot come along': what a piece answers, with the bytes as they are then
-abbrev pub putOut : Wrote → List ℕ → Put
-putOut r b = record { answer = r .answer; dev = devOf (r .mode) b }
+abbrev pub putOut : Wrote → List ℕ → PieceOutcome
+putOut r b = record { answer = r .answer; output = outputOf (r .mode) b }
 
 -- Document 01, 'The answer to a call', 6: a length added to a total
-abbrev pub countIn : WriterBackend → List ℕ → ℕ → Put
+abbrev pub countIn : WriterBackend → List ℕ → ℕ → PieceOutcome
 countIn w b n =
-    cond (ltb most (w .number + n)) (record { answer = 6; dev = devOf w b })
-    (record { answer = 0; dev = devOf (record { counting = w .counting; number = w .number + n }) b })
+    cond (ltb most (w .number + n)) (record { answer = 6; output = outputOf w b })
+    (record { answer = 0; output = outputOf (record { counting = w .counting; number = w .number + n }) b })

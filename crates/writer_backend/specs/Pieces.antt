@@ -4,17 +4,17 @@ use mathlib.Core.List.{List, [], _∷_}
 use Prim.Native.Nat.{ℕ, _+_}
 use lib.ListN.{length}
 use Rattle.agreement.specs.Call.{Place, field, item, entry, spaces}
-use Rattle.agreement.specs.Model.{Put, put, hold}
-use Rattle.writer_backend.specs.declared.record.Spot.{Spot}
-use Rattle.writer_backend.specs.declared.record.Spot.the-variants.{Field, Item}
-use Rattle.writer_backend.specs.declared.record.Spot.the-variants as spot
+use Rattle.agreement.specs.Model.{PieceOutcome, put, hold}
+use Rattle.writer_backend.specs.declared.record.PlaceKind.{PlaceKind}
+use Rattle.writer_backend.specs.declared.record.PlaceKind.the-variants.{Field, Item}
+use Rattle.writer_backend.specs.declared.record.PlaceKind.the-variants as place-kind
 
 -- Document 01, 'A nested record', field or entry: one piece more; the builder holds the first refusal
-unfoldable pub tryOn : Put → List ℕ → Put
-tryOn p s = let a = put (p .dev) s in record { answer = hold (p .answer) (a .answer); dev = a .dev }
+unfoldable pub tryOn : PieceOutcome → List ℕ → PieceOutcome
+tryOn p s = let a = put (p .output) s in record { answer = hold (p .answer) (a .answer); output = a .output }
 
 -- Document 01, 'A nested record', field or entry: each piece is tried even after one is refused
-abbrev pub tryAll : Put → List (List ℕ) → Put
+abbrev pub tryAll : PieceOutcome → List (List ℕ) → PieceOutcome
 tryAll p [] = p
 tryAll p (s ∷ ss) = tryAll (tryOn p s) ss
 
@@ -28,8 +28,8 @@ abbrev pub marginPieces : Bool → ℕ → List (List ℕ)
 marginPieces false m = []
 marginPieces true m = spaces m ∷ []
 
--- Document 01, 'Rust forms that cannot come along': the place that a spot and a name are
-abbrev pub placeOf : Spot → List ℕ → Place
+-- Document 01, 'Rust forms that cannot come along': the place that its kind and a name are
+abbrev pub placeOf : PlaceKind → List ℕ → Place
 placeOf Field s = field s
 placeOf Item s = item
-placeOf spot.Entry s = entry
+placeOf place-kind.Entry s = entry

@@ -7,7 +7,7 @@ use Rattle.formatting.specs.declared.flags.NumberFormatting.the-variants.{Decim
 use Rattle.pwrapper.specs.Number.{debugParts}
 use Rattle.str_writer.specs.Value.{Form, display, debug, Value, integer, char, str, ascii, repeated}
 use Rattle.agreement.specs.Call.{valueFault, cutNumber}
-use Rattle.agreement.specs.Model.{Dev, Put, putValue, hold, cutIn, beyond}
+use Rattle.agreement.specs.Model.{Output, PieceOutcome, putValue, hold, cutIn, beyond}
 use Rattle.writer_backend.specs.declared.pieces.WriterBackend.{WriterBackend}
 use Rattle.writer_backend.specs.declared.value.Form as code
 use Rattle.writer_backend.specs.declared.value.Form.the-variants.{Display, Debug}
@@ -18,7 +18,7 @@ use Rattle.writer_backend.specs.declared.value.Integer.the-variants.{Uns
 use Rattle.writer_backend.specs.declared.value.Parts.{Parts}
 use Rattle.writer_backend.specs.declared.value.PVariant.{PVariant}
 use Rattle.writer_backend.specs.declared.value.PVariant.the-variants.{Int, Char, Str, Ascii, Repeated}
-use Rattle.writer_backend.specs.Output.{modeOf, devOf}
+use Rattle.writer_backend.specs.Output.{modeOf, outputOf}
 
 -- Document 01, 'A nested record': display or debug
 abbrev pub formOf : code.Form → Form
@@ -55,11 +55,11 @@ valueOf (Ascii m r) s = ascii (formOf m) s r
 valueOf (Repeated c n) s = repeated c n
 
 -- Document 01, 'The answer to a call': a value that meets a fault is refused with it, and nothing changes
-abbrev pub unlessFault : ℕ → Dev → Put → Put
+abbrev pub unlessFault : ℕ → Output → PieceOutcome → PieceOutcome
 unlessFault zero d p = p
-unlessFault (suc a) d p = record { answer = suc a; dev = d }
+unlessFault (suc a) d p = record { answer = suc a; output = d }
 
 -- Document 01, 'The answer to a call', order: 9, then 2, 4 or 5, then 3 in writing, then 6 or 1
-unfoldable pub valueOut : WriterBackend → List ℕ → FormattingFlags → Value → Put
+unfoldable pub valueOut : WriterBackend → List ℕ → FormattingFlags → Value → PieceOutcome
 valueOut w b f v =
-    unlessFault (hold (beyond (modeOf w) b) (hold (valueFault v) (cutIn (modeOf w) (cutNumber v)))) (devOf w b) (putValue (devOf w b) f v)
+    unlessFault (hold (beyond (modeOf w) b) (hold (valueFault v) (cutIn (modeOf w) (cutNumber v)))) (outputOf w b) (putValue (outputOf w b) f v)

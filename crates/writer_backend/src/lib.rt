@@ -11,7 +11,7 @@ pub use pieces::first;
 pub use pieces::past;
 pub use pieces::put;
 pub use pieces::put_spaces;
-pub use record::Spot;
+pub use record::PlaceKind;
 pub use record::close;
 pub use record::is_name;
 pub use record::place_fault;

@@ -6,7 +6,7 @@ ghost use Rattle.agreement.specs.Call.{spaces};
 ghost use Rattle.agreement.specs.Model.{beyond, hold};
 ghost use Rattle.agreement.specs.Model.{put as putText, wrote as wroteText};
 ghost use Rattle.str_writer.specs.Write.{outcome};
-ghost use Rattle.writer_backend.specs.Output.{modeOf, devOf, putOut, countIn};
+ghost use Rattle.writer_backend.specs.Output.{modeOf, outputOf, putOut, countIn};
 ghost use Rattle.writer_backend.specs.Pieces.{tryOn};
 ghost use Rattle.writer_backend.specs.Words.{textOfWord};
 use crate::words::Word;
@@ -71,7 +71,7 @@ pub fn from_written(w: Written) -> Wrote
 
 // A piece: counted, or written at the cursor. A cursor past the bytes has no room.
 pub fn put(m: WriterBackend, buf: &mut [u8], s: &[u8]) -> Wrote
-    ensures { λ r. ⌜ putOut r (now (buf .exit)) ≡ putText (devOf m (now (buf .entry))) (now (s .entry)) ⌝ }
+    ensures { λ r. ⌜ putOut r (now (buf .exit)) ≡ putText (outputOf m (now (buf .entry))) (now (s .entry)) ⌝ }
 {
     if m.counting != 0 {
         return add_len(m, s.len());
@@ -86,7 +86,7 @@ pub fn put(m: WriterBackend, buf: &mut [u8], s: &[u8]) -> Wrote
 
 // k spaces as a piece.
 pub fn put_spaces(m: WriterBackend, buf: &mut [u8], k: usize) -> Wrote
-    ensures { λ r. ⌜ putOut r (now (buf .exit)) ≡ putText (devOf m (now (buf .entry))) (spaces k) ⌝ }
+    ensures { λ r. ⌜ putOut r (now (buf .exit)) ≡ putText (outputOf m (now (buf .entry))) (spaces k) ⌝ }
 {
     if m.counting != 0 {
         return add_len(m, k);
@@ -100,7 +100,7 @@ pub fn put_spaces(m: WriterBackend, buf: &mut [u8], k: usize) -> Wrote
 }
 
 pub fn put_word(m: WriterBackend, buf: &mut [u8], w: Word) -> Wrote
-    ensures { λ r. ⌜ putOut r (now (buf .exit)) ≡ putText (devOf m (now (buf .entry))) (textOfWord w) ⌝ }
+    ensures { λ r. ⌜ putOut r (now (buf .exit)) ≡ putText (outputOf m (now (buf .entry))) (textOfWord w) ⌝ }
 {
     let t = w.bytes;
     let n = w.len;

@@ -6,7 +6,7 @@ ghost use lib.ListN.{length};
 ghost use Rattle.utf8.specs.Utf8.{wellFormed};
 ghost use Rattle.agreement.specs.Call.{nameOf, placeName, suits, placeFault};
 ghost use Rattle.agreement.specs.Model.{stops, tries, closePieces, placePieces, labelPieces, namePieces};
-ghost use Rattle.writer_backend.specs.Output.{devOf, putOut};
+ghost use Rattle.writer_backend.specs.Output.{outputOf, putOut};
 ghost use Rattle.writer_backend.specs.Pieces.{tryAll, lengthOf, marginPieces, placeOf};
 use crate::pieces::WriterBackend;
 use crate::pieces::Wrote;
@@ -25,7 +25,7 @@ use agreement::Kind;
 use utf8::is_utf8;
 
 // Where a separator goes: before a field of a struct, one of a tuple, an entry of a list or a set.
-pub enum Spot {
+pub enum PlaceKind {
     Field,
     Item,
     Entry,
@@ -33,7 +33,7 @@ pub enum Spot {
 
 // The closing of a builder, piece by piece, to the first refusal.
 pub fn close(m: WriterBackend, buf: &mut [u8], k: Kind, has: bool, alt: bool, n: usize) -> Wrote
-    ensures { λ r. ⌜ putOut r (now (buf .exit)) ≡ stops (devOf m (now (buf .entry))) (closePieces k has alt n) ⌝ }
+    ensures { λ r. ⌜ putOut r (now (buf .exit)) ≡ stops (outputOf m (now (buf .entry))) (closePieces k has alt n) ⌝ }
 {
     if !has {
         return put_word(m, buf, empty_close(k));
@@ -56,7 +56,7 @@ pub fn close(m: WriterBackend, buf: &mut [u8], k: Kind, has: bool, alt: bool, n:
 
 // The name of a struct or a tuple.
 pub fn put_name(m: WriterBackend, buf: &mut [u8], k: Kind, name: &[u8]) -> Wrote
-    ensures { λ r. ⌜ putOut r (now (buf .exit)) ≡ tries (devOf m (now (buf .entry))) (namePieces k (now (name .entry))) ⌝ }
+    ensures { λ r. ⌜ putOut r (now (buf .exit)) ≡ tries (outputOf m (now (buf .entry))) (namePieces k (now (name .entry))) ⌝ }
 {
     match k {
         Kind::Struct => put(m, buf, name),
@@ -77,23 +77,23 @@ pub fn is_name(k: Kind, name: &[u8]) -> bool
     }
 }
 
-fn spot_suits(p: Spot, k: Kind) -> bool
+fn place_kind_suits(p: PlaceKind, k: Kind) -> bool
     ensures { λ r. ⌜ r ≡ suits (placeOf p []) k ⌝ }
 {
     match p {
-        Spot::Field => match k {
+        PlaceKind::Field => match k {
             Kind::Struct => true,
             Kind::Tuple => false,
             Kind::List => false,
             Kind::Set => false,
         },
-        Spot::Item => match k {
+        PlaceKind::Item => match k {
             Kind::Struct => false,
             Kind::Tuple => true,
             Kind::List => false,
             Kind::Set => false,
         },
-        Spot::Entry => match k {
+        PlaceKind::Entry => match k {
             Kind::Struct => false,
             Kind::Tuple => false,
             Kind::List => true,
@@ -102,21 +102,21 @@ fn spot_suits(p: Spot, k: Kind) -> bool
     }
 }
 
-pub fn is_label(p: Spot, name: &[u8]) -> bool
+pub fn is_label(p: PlaceKind, name: &[u8]) -> bool
     ensures { λ r. ⌜ r ≡ wellFormed (placeName (placeOf p (now (name .entry)))) ⌝ }
 {
     match p {
-        Spot::Field => is_utf8(name),
-        Spot::Item => true,
-        Spot::Entry => true,
+        PlaceKind::Field => is_utf8(name),
+        PlaceKind::Item => true,
+        PlaceKind::Entry => true,
     }
 }
 
 // 8, then 4.
-pub fn place_fault(p: Spot, k: Kind, name: &[u8]) -> u8
+pub fn place_fault(p: PlaceKind, k: Kind, name: &[u8]) -> u8
     ensures { λ r. ⌜ r ≡ placeFault (placeOf p (now (name .entry))) k ⌝ }
 {
-    if !spot_suits(p, k) {
+    if !place_kind_suits(p, k) {
         return 8;
     }
     if !is_label(p, name) {
@@ -125,16 +125,16 @@ pub fn place_fault(p: Spot, k: Kind, name: &[u8]) -> u8
     0
 }
 
-fn label(t: Wrote, buf: &mut [u8], p: Spot, name: &[u8]) -> Wrote
+fn label(t: Wrote, buf: &mut [u8], p: PlaceKind, name: &[u8]) -> Wrote
     ensures { λ r. ⌜ putOut r (now (buf .exit)) ≡ tryAll (putOut t (now (buf .entry))) (labelPieces (placeOf p (now (name .entry)))) ⌝ }
 {
     match p {
-        Spot::Field => {
+        PlaceKind::Field => {
             let a = try_put(t, buf, name);
             try_put(a, buf, b": ")
         }
-        Spot::Item => t,
-        Spot::Entry => t,
+        PlaceKind::Item => t,
+        PlaceKind::Entry => t,
     }
 }
 
@@ -157,18 +157,18 @@ fn margin_len(alt: bool, margin: u16) -> usize
     0
 }
 
-fn label_len(p: Spot, name: &[u8]) -> usize
+fn label_len(p: PlaceKind, name: &[u8]) -> usize
     ensures { λ r. ⌜ (r ≡ lengthOf (labelPieces (placeOf p (now (name .entry))))) × (r ≤ length (now (name .entry)) + 2) ⌝ }
 {
     match p {
-        Spot::Field => name.len() + 2,
-        Spot::Item => 0,
-        Spot::Entry => 0,
+        PlaceKind::Field => name.len() + 2,
+        PlaceKind::Item => 0,
+        PlaceKind::Entry => 0,
     }
 }
 
 // The length of all that goes before a field or an entry.
-fn place_len(k: Kind, has: bool, alt: bool, margin: u16, p: Spot, name: &[u8]) -> usize
+fn place_len(k: Kind, has: bool, alt: bool, margin: u16, p: PlaceKind, name: &[u8]) -> usize
     ensures { λ r. ⌜ r ≡ lengthOf (placePieces k has alt margin (placeOf p (now (name .entry)))) ⌝ }
 {
     separator_len(k, has, alt) + margin_len(alt, margin) + label_len(p, name)
@@ -183,7 +183,7 @@ pub fn place_pieces(
     has: bool,
     alt: bool,
     margin: u16,
-    p: Spot,
+    p: PlaceKind,
     name: &[u8],
 ) -> Wrote
     ensures { λ r. ⌜ putOut r (now (buf .exit)) ≡ tryAll (putOut t (now (buf .entry))) (placePieces k has alt margin (placeOf p (now (name .entry)))) ⌝ }

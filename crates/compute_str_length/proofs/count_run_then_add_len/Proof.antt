@@ -162,7 +162,7 @@ module _ {M : Type 1} (𝓤 : URA M) (H : Heap 𝓤) (A : Atoms 𝓤) (W : Given
   played = playFrom 0 (start (counting 0) [] f) (decode (s .now) (t .now))
 
   abbrev Counts : ℕ → ℕ → Type 0
-  Counts r k = _≡_ {A = Played} (record { first = r; dev = record { mode = counting k; bytes = [] } }) played
+  Counts r k = _≡_ {A = Played} (record { first = r; output = record { mode = counting k; bytes = [] } }) played
 
   abbrev Adds : ℕ → ℕ → ℕ → Type 0
   Adds r k k′ = _≡_ {A = Ran} (record { first = r; number = k′ }) (addTo k n)
@@ -177,7 +177,7 @@ module _ {M : Type 1} (𝓤 : URA M) (H : Heap 𝓤) (A : Atoms 𝓤) (W : Given
   exits : Is F.the-row f (fv ∷ []) → (k k′ r₁ r₂ : ℕ) → k′ < 2 ^ 64 → r₁ < 2 ^ 8 → r₂ < 2 ^ 8 → Counts r₁ k → Adds r₂ k k′ → ent 𝓤 (⋆ 𝓤 H A (Toks ∷ ‵ OwnT ∷ ‵ OwnS ∷ [])) (Post (resultVal k′ r₁ r₂))
   exits pf k k′ r₁ r₂ k-fits fits₁ fits₂ e₁ e₂ =
       qed W (Toks ∷ ‵ OwnT ∷ ‵ OwnS ∷ []) ∵ suffices ! _ (ends-at 𝓤 H A both.ended stayed (both.clauses 𝓤 H A at-mem run) W bound (resultVal k′ r₁ r₂) (result k′ r₁ r₂) (tt, (tt, (tt, (tt, tt)))) (tt, (tt, (tt, (tt, tt))))) $
-      says ! (ap (λ (p : Played). p .first) e₁, e₂ ∙ ap (λ (p : Played). addTo (numberIn (p .dev .mode)) n) e₁) $
+      says ! (ap (λ (p : Played). p .first) e₁, e₂ ∙ ap (λ (p : Played). addTo (numberIn (p .output .mode)) n) e₁) $
       frame ! $ nothing ! $ owned ! usize (Is usize) (uint-makes 𝓤 H A W w64) n _ (refl, n-fits) $ fjoin ! $ move ! (1 ∷ 0 ∷ []) $ fjoin ! $ move ! (1 ∷ 0 ∷ []) $ fjoin ! $ owned ! F.the-row (Is F.the-row) (LL.makes F.the-type F′.the-plain 𝓤 H A) f _ pf $ fjoin ! $
       owned ! P.the-row (Is P.the-row) (LL.makes P.the-type P′.the-plain 𝓤 H A) (result k′ r₁ r₂) _ (LL.owes P.the-type P′.the-laws (result k′ r₁ r₂) ((refl, k-fits), ((refl, fits₁), ((refl, fits₂), tt)))) $ move ! (1 ∷ 0 ∷ []) $ done !
 

@@ -69,7 +69,7 @@ stayed = (stay-ref (0 ∷ []) tt (plain (λ _. T.the-row)), (stay-none (λ _. F.
 
 -- what a run counted from the total m gives
 abbrev Counts : ℕ → FormattingFlags → List ℕ → List ℕ → Ran → Type 0
-Counts m f cs ts r = _≡_ {A = Played} (record { first = r .first; dev = record { mode = counting (r .number); bytes = [] } }) (playFrom 0 (start (counting m) [] f) (decode cs ts))
+Counts m f cs ts r = _≡_ {A = Played} (record { first = r .first; output = record { mode = counting (r .number); bytes = [] } }) (playFrom 0 (start (counting m) [] f) (decode cs ts))
 
 module _ {M : Type 1} (𝓤 : URA M) (H : Heap 𝓤) (A : Atoms 𝓤) (mem′ : Memory → SProp 𝓤) (run : Routine → Fun 𝓤) where
   abbrev Count : Contract 𝓤

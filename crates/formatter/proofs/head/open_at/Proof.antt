@@ -1,7 +1,7 @@
 use native.Mathlib.Omega.{arith}
 use borrow.Author.Needs.{needs}
 use Rattle.agreement.specs.Model.{namePieces}
-use Rattle.writer_backend.specs.Output.{devOf}
+use Rattle.writer_backend.specs.Output.{outputOf}
 use Rattle.formatter.proofs.Held.{opened-below}
 use Rattle.agreement.specs.Call.{opens}
 use Rattle.formatter.proofs.Steps.{past-end, open-room, open-refused, open-done}
@@ -25,7 +25,7 @@ returns-2 c =
 pack-builder-requires : tie.Need-pack-builder-requires
 pack-builder-requires c κs =
     let a = c .before .before .before .before .before .before .before .before .before .before .before .before .before .before .before .before .args in
-    opened-below (devOf (a .h .mode) (a .buf .now)) (namePieces (a .k) (a .name .now)) (c .before .before .put-name .ensures)
+    opened-below (outputOf (a .h .mode) (a .buf .now)) (namePieces (a .k) (a .name .now)) (c .before .before .put-name .ensures)
 
 element-write-stack : tie.Need-element-write-stack
 element-write-stack c =

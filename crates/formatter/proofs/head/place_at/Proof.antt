@@ -1,7 +1,7 @@
 use mathlib.Core.Path.{sym, _∙_}
 use borrow.Author.Needs.{needs}
 use Rattle.agreement.specs.Model.{placePieces}
-use Rattle.writer_backend.specs.Output.{devOf}
+use Rattle.writer_backend.specs.Output.{outputOf}
 use Rattle.formatter.proofs.Held.{placed-below, entry-below}
 use Rattle.agreement.specs.Call.{place}
 use Rattle.writer_backend.specs.Pieces.{placeOf}
@@ -38,7 +38,7 @@ pack-builder-requires c κs =
     let a = c .before .before .before .before .before .before .before .before .before .before .before .before .before .before .before .before .before .before .before .before .before .before .args in
     let e = c .before .before .before .before .before .before .before .before .before .e .given in
     let u = c .before .before .before .before .before .before .before .before .before .before .before .entry-in in
-    placed-below (e .0 .1 .1 .0) (devOf (a .h .mode) (a .buf .now)) (placePieces (e .0 .0) (e .0 .1 .0) (c .before .before .before .before .before .flags .result .«is_alternate») (c .before .before .before .before .margin .result) (placeOf (a .p) (a .name .now))) (entry-below _ (e .0 .0) (e .0 .1 .0) (e .0 .1 .1 .0) (sym (u .ensures) ∙ e .1)) (c .before .before .place-pieces .ensures)
+    placed-below (e .0 .1 .1 .0) (outputOf (a .h .mode) (a .buf .now)) (placePieces (e .0 .0) (e .0 .1 .0) (c .before .before .before .before .before .flags .result .«is_alternate») (c .before .before .before .before .margin .result) (placeOf (a .p) (a .name .now))) (entry-below _ (e .0 .0) (e .0 .1 .0) (e .0 .1 .1 .0) (sym (u .ensures) ∙ e .1)) (c .before .before .place-pieces .ensures)
 
 returns-4 : tie.Need-returns-4
 returns-4 c =

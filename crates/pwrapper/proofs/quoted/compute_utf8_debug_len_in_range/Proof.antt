@@ -5,7 +5,7 @@ use lib.ListN.{length}
 use lib.Seq.{slice}
 use Rattle.formatting.specs.Escape.{quoted}
 use Rattle.utils.specs.declared.Range.{Range}
-use Rattle.pwrapper.specs.Quoted.{countOf}
+use Rattle.pwrapper.specs.QuotedCount.{countOf}
 use Rattle.pwrapper.proofs.Escapes.{Passed, none-passed, bare-passed, letter-passed, code-passed, all-passed, clamped}
 use borrow.Author.Needs.{needs}
 use native.Mathlib.Omega.{arith}

@@ -3,7 +3,7 @@ use mathlib.Core.List.{[]}
 use Prim.Native.Nat.{_+_, _-_, _≤_, _<_}
 use lib.ListN.{length, drop, getD, length-drop, drop-of-length-le}
 use Rattle.formatting.specs.Escape.{escaped}
-use Rattle.str_writer.specs.Quoted.{costOf, leading}
+use Rattle.str_writer.specs.QuotedLeaves.{costOf, leading}
 use Rattle.str_writer.specs.Write.{splice}
 use borrow.Author.Needs.{needs}
 use borrow.Author.Tests.{lt-ltb, le-ltb}

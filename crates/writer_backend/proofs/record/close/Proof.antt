@@ -1,5 +1,5 @@
 use borrow.Author.Tests.{not-true, not-false}
-use Rattle.writer_backend.specs.Output.{devOf, putOut}
+use Rattle.writer_backend.specs.Output.{outputOf, putOut}
 use Rattle.writer_backend.proofs.Sequence.{close-empty, close-plain, close-first, close-second, close-last}
 use borrow.Author.Needs.{needs}
 use Rattle.writer_backend.proofs.record.close.Statement.{statement}
@@ -19,7 +19,7 @@ returns c =
     let a = c .before .before .before .before .before .before .before .args in
     let w = c .before .before .put-word in
     rw (not-true (a .has) (c .before .before .before .before .before .if1 .taken))
-    (close-empty (devOf (a .m) (a .buf .now)) (a .k) (a .n) (a .alt) _ (putOut (w .result) (w .last .1 .0)) (w .ensures) (c .before .before .before .empty-close .ensures))
+    (close-empty (outputOf (a .m) (a .buf .now)) (a .k) (a .n) (a .alt) _ (putOut (w .result) (w .last .1 .0)) (w .ensures) (c .before .before .before .empty-close .ensures))
 
 plain-close-requires : tie.Need-plain-close-requires
 plain-close-requires c κs = search needs
@@ -35,7 +35,7 @@ returns-2 c =
     let a = c .before .before .before .before .before .before .before .before .args in
     let w = c .before .before .put-word2 in
     rw (not-false (a .has) (c .before .before .before .before .before .before .if1 .left), not-true (a .alt) (c .before .before .before .before .before .if2 .taken))
-    (close-plain (devOf (a .m) (a .buf .now)) (a .k) (a .n) _ (putOut (w .result) (w .last .1 .0)) (w .ensures) (c .before .before .before .plain-close .ensures))
+    (close-plain (outputOf (a .m) (a .buf .now)) (a .k) (a .n) _ (putOut (w .result) (w .last .1 .0)) (w .ensures) (c .before .before .before .plain-close .ensures))
 
 slice-aggregate-put : tie.Need-slice-aggregate-put
 slice-aggregate-put c = search needs
@@ -51,7 +51,7 @@ returns-3 c =
     let a = c .before .before .before .before .before .before .before .before .before .before .args in
     let w = c .before .before .before .before .put in
     rw (not-false (a .has) (c .before .before .before .before .before .before .before .before .if1 .left), not-false (a .alt) (c .before .before .before .before .before .before .before .if2 .left))
-    (close-first (devOf (a .m) (a .buf .now)) (a .k) (a .n) (putOut (w .result) (w .last .1 .0)) (w .ensures) (c .if3 .taken))
+    (close-first (outputOf (a .m) (a .buf .now)) (a .k) (a .n) (putOut (w .result) (w .last .1 .0)) (w .ensures) (c .if3 .taken))
 
 put-spaces-requires : tie.Need-put-spaces-requires
 put-spaces-requires c κs = search needs
@@ -65,7 +65,7 @@ returns-4 c =
     let w = c .before .before .before .before .before .before .before .before .before .before .before .put in
     let v = c .before .before .before .before .put-spaces in
     rw (not-false (a .has) (c .before .before .before .before .before .before .before .before .before .before .before .before .before .before .before .if1 .left), not-false (a .alt) (c .before .before .before .before .before .before .before .before .before .before .before .before .before .before .if2 .left))
-    (close-second (devOf (a .m) (a .buf .now)) (a .k) (a .n) (putOut (w .result) (w .last .1 .0)) (w .ensures) (c .before .before .before .before .before .before .before .if3 .left) (putOut (v .result) (v .last .1 .0)) (v .ensures) (c .if4 .taken))
+    (close-second (outputOf (a .m) (a .buf .now)) (a .k) (a .n) (putOut (w .result) (w .last .1 .0)) (w .ensures) (c .before .before .before .before .before .before .before .if3 .left) (putOut (v .result) (v .last .1 .0)) (v .ensures) (c .if4 .taken))
 
 bracket-of-requires : tie.Need-bracket-of-requires
 bracket-of-requires c κs = search needs
@@ -83,7 +83,7 @@ returns-5 c =
     let v = c .before .before .before .before .before .before .before .before .before .before .put-spaces in
     let u = c .before .before .put-word3 in
     rw (not-false (a .has) (c .before .before .before .before .before .before .before .before .before .before .before .before .before .before .before .before .before .before .before .before .before .if1 .left), not-false (a .alt) (c .before .before .before .before .before .before .before .before .before .before .before .before .before .before .before .before .before .before .before .before .if2 .left))
-    (close-last (devOf (a .m) (a .buf .now)) (a .k) (a .n) (putOut (w .result) (w .last .1 .0)) (w .ensures) (c .before .before .before .before .before .before .before .before .before .before .before .before .before .if3 .left) (putOut (v .result) (v .last .1 .0)) (v .ensures) _ (putOut (u .result) (u .last .1 .0)) (c .before .before .before .before .before .before .if4 .left) (c .before .before .before .bracket-of .ensures) (u .ensures))
+    (close-last (outputOf (a .m) (a .buf .now)) (a .k) (a .n) (putOut (w .result) (w .last .1 .0)) (w .ensures) (c .before .before .before .before .before .before .before .before .before .before .before .before .before .if3 .left) (putOut (v .result) (v .last .1 .0)) (v .ensures) _ (putOut (u .result) (u .last .1 .0)) (c .before .before .before .before .before .before .if4 .left) (c .before .before .before .bracket-of .ensures) (u .ensures))
 
 pub close-spec : {M : Type 1} → statement M
 close-spec =

@@ -4,11 +4,11 @@ use borrow.Author.Needs.{needs}
 use Rattle.writer_backend.proofs.record.place_fault.Statement.{statement}
 use Rattle.writer_backend.proofs.record.place_fault.Tie as tie
 
-spot-suits-requires : tie.Need-spot-suits-requires
-spot-suits-requires c κs = search needs
+place-kind-suits-requires : tie.Need-place-kind-suits-requires
+place-kind-suits-requires c κs = search needs
 
 returns : tie.Need-returns
-returns c = let a = c .before .before .before .args in let s = c .before .spot-suits in rw (suits-any (a .p) (a .name .now) (a .k), ← s .ensures, not-true (s .result) (c .if1 .taken))
+returns c = let a = c .before .before .before .args in let s = c .before .place-kind-suits in rw (suits-any (a .p) (a .name .now) (a .k), ← s .ensures, not-true (s .result) (c .if1 .taken))
 
 is-label-requires : tie.Need-is-label-requires
 is-label-requires c κs = search needs
@@ -16,17 +16,17 @@ is-label-requires c κs = search needs
 returns-2 : tie.Need-returns-2
 returns-2 c =
     let a = c .before .before .before .before .before .args in
-    let s = c .before .before .before .spot-suits in
+    let s = c .before .before .before .place-kind-suits in
     let l = c .before .is-label in
     rw (suits-any (a .p) (a .name .now) (a .k), ← s .ensures, not-false (s .result) (c .before .before .if1 .left), ← l .ensures, not-true (l .result) (c .if2 .taken))
 
 returns-3 : tie.Need-returns-3
 returns-3 c =
     let a = c .before .before .before .before .before .args in
-    let s = c .before .before .before .spot-suits in
+    let s = c .before .before .before .place-kind-suits in
     let l = c .before .is-label in
     rw (suits-any (a .p) (a .name .now) (a .k), ← s .ensures, not-false (s .result) (c .before .before .if1 .left), ← l .ensures, not-false (l .result) (c .if2 .left))
 
 pub place-fault-spec : {M : Type 1} → statement M
 place-fault-spec =
-    tie.close (tie.spec spot-suits-requires returns is-label-requires returns-2 returns-3)
+    tie.close (tie.spec place-kind-suits-requires returns is-label-requires returns-2 returns-3)

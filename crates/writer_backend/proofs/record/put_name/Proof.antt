@@ -1,5 +1,5 @@
 use mathlib.Core.Path.{_∙_}
-use Rattle.writer_backend.specs.Output.{devOf}
+use Rattle.writer_backend.specs.Output.{outputOf}
 use Rattle.writer_backend.proofs.Sequence.{tries-one}
 use borrow.Author.Needs.{needs}
 use Rattle.writer_backend.proofs.record.put_name.Statement.{statement}
@@ -27,13 +27,13 @@ same-length : tie.Need-same-length
 same-length c = search needs
 
 returns : tie.Need-returns
-returns c = let a = c .before .before .before .before .before .before .before .before .args in rw (c .before .before .before .before .enum-told .given .1) (c .before .before .put .ensures ∙ tries-one (devOf (a .m) (a .buf .now)) (a .name .now))
+returns c = let a = c .before .before .before .before .before .before .before .before .args in rw (c .before .before .before .before .enum-told .given .1) (c .before .before .put .ensures ∙ tries-one (outputOf (a .m) (a .buf .now)) (a .name .now))
 
 same-length-2 : tie.Need-same-length-2
 same-length-2 c = search needs
 
 returns-2 : tie.Need-returns-2
-returns-2 c = let a = c .before .before .before .before .before .before .before .before .args in rw (c .before .before .before .before .enum-told2 .given .1) (c .before .before .put2 .ensures ∙ tries-one (devOf (a .m) (a .buf .now)) (a .name .now))
+returns-2 c = let a = c .before .before .before .before .before .before .before .before .args in rw (c .before .before .before .before .enum-told2 .given .1) (c .before .before .put2 .ensures ∙ tries-one (outputOf (a .m) (a .buf .now)) (a .name .now))
 
 returns-3 : tie.Need-returns-3
 returns-3 c = rw (c .enum-told3 .given .1)
