@@ -8,9 +8,9 @@ use mir.Syntax.{w64}
 use mir.Val.{toZ}
 use mir.Facts.{toZ-pos, toZ-neg}
 use borrow.Author.Tests.{lt-ltb, le-ltb}
-use Rattle.writer_backend.specs.declared.value.Width.{Width}
-use Rattle.writer_backend.specs.declared.value.Width.the-variants.{W8, W16, W32, W64}
-use Rattle.writer_backend.specs.Values.{bitsOf}
+use Rattle.value_writes.specs.declared.Width.{Width}
+use Rattle.value_writes.specs.declared.Width.the-variants.{W8, W16, W32, W64}
+use Rattle.value_writes.specs.Values.{bitsOf}
 use Rattle.encoded_call.specs.Encoding.{widthAt, signedAt}
 
 -- past the numbers before the last, the last

@@ -13,14 +13,14 @@ use Rattle.agreement.specs.Call.{Call, opens, place, value, sub, endsub, finish
 use Rattle.agreement.specs.Model.{State, Out, guard, beyond, step}
 use Rattle.writer_backend.specs.declared.record.PlaceKind.the-variants.{Field, Item}
 use Rattle.writer_backend.specs.declared.record.PlaceKind.the-variants as place-kind
-use Rattle.writer_backend.specs.declared.value.Form.{Form}
-use Rattle.writer_backend.specs.declared.value.Form.the-variants.{Display, Debug}
-use Rattle.writer_backend.specs.declared.value.Width.{Width}
-use Rattle.writer_backend.specs.declared.value.Width.the-variants.{W8, W16, W32, W64}
-use Rattle.writer_backend.specs.declared.value.Integer.the-variants.{Unsigned, Signed}
-use Rattle.writer_backend.specs.declared.value.PVariant.the-variants.{Int, Char, Str, Ascii, Repeated}
+use Rattle.value_writes.specs.declared.Form.{Form}
+use Rattle.value_writes.specs.declared.Form.the-variants.{Display, Debug}
+use Rattle.value_writes.specs.declared.Width.{Width}
+use Rattle.value_writes.specs.declared.Width.the-variants.{W8, W16, W32, W64}
+use Rattle.value_writes.specs.declared.Integer.the-variants.{Unsigned, Signed}
+use Rattle.value_writes.specs.declared.PVariant.the-variants.{Int, Char, Str, Ascii, Repeated}
 use Rattle.writer_backend.specs.Pieces.{placeOf}
-use Rattle.writer_backend.specs.Values.{bitsOf, valueOf}
+use Rattle.value_writes.specs.Values.{bitsOf, valueOf}
 use Rattle.encoded_call.specs.declared.Op.{Op}
 use Rattle.encoded_call.specs.declared.Op.the-variants.{Open, Place, Finish, Sub, EndSub, Value, Nothing}
 

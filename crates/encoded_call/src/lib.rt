@@ -6,7 +6,7 @@ ghost use mathlib.Core.Option.{none};
 ghost use Prim.Native.Nat.{ℕ, _^_, _<_};
 ghost use lib.ListN.{getD};
 ghost use Rattle.formatter.specs.View.{view, viewOut};
-ghost use Rattle.writer_backend.specs.Values.{bitsOf};
+ghost use Rattle.value_writes.specs.Values.{bitsOf};
 ghost use Rattle.encoded_call.specs.Encoding.{valueAt, opAt, callOf, callAt, widthAt, signedAt, unsignedAt, integerAt, charAt, repeatedAt, stepOr};
 use agreement::Kind;
 use formatter::Head;
@@ -20,12 +20,12 @@ use formatter::value_at;
 use formatting::FormattingFlags;
 use formatting::flags_of;
 use utils::Range;
-use writer_backend::Form;
-use writer_backend::Integer;
-use writer_backend::PVariant;
+use value_writes::Form;
+use value_writes::Integer;
+use value_writes::PVariant;
+use value_writes::Width;
+use value_writes::greatest;
 use writer_backend::PlaceKind;
-use writer_backend::Width;
-use writer_backend::greatest;
 use writer_backend::past;
 
 // What a call's first word asks for.

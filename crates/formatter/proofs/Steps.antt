@@ -20,7 +20,7 @@ use Rattle.agreement.specs.Model.{PieceOutcome, putValue, hold, cutIn, tries, s
 use Rattle.writer_backend.specs.declared.pieces.Wrote.{Wrote}
 use Rattle.writer_backend.specs.Output.{modeOf, outputOf, putOut}
 use Rattle.writer_backend.specs.Pieces.{tryAll}
-use Rattle.writer_backend.specs.Values.{unlessFault, valueOut}
+use Rattle.value_writes.specs.Values.{unlessFault, valueOut}
 use Rattle.writer_backend.proofs.Sequence.{tried}
 use Rattle.formatter.specs.declared.head.Head.{Head}
 use Rattle.formatter.specs.Entries.{entryOf}

@@ -9,7 +9,7 @@ ghost use Rattle.agreement.specs.Call.{openFault, nameOf, opens, place, value, 
 ghost use Rattle.agreement.specs.Model.{step, readyTop, start};
 ghost use Rattle.writer_backend.specs.Output.{modeOf};
 ghost use Rattle.writer_backend.specs.Pieces.{placeOf};
-ghost use Rattle.writer_backend.specs.Values.{valueOf};
+ghost use Rattle.value_writes.specs.Values.{valueOf};
 ghost use Rattle.formatter.specs.Entries.{entryOf};
 ghost use Rattle.formatter.specs.View.{stackOf, depthOf, marginOf, view, viewOut};
 use crate::entries::pack_builder;
@@ -20,7 +20,8 @@ use agreement::Kind;
 use formatting::FormattingFlags;
 use formatting::flags_number;
 use formatting::flags_of;
-use writer_backend::PVariant;
+use value_writes::PVariant;
+use value_writes::put_value;
 use writer_backend::PlaceKind;
 use writer_backend::WriterBackend;
 use writer_backend::Wrote;
@@ -30,7 +31,6 @@ use writer_backend::past;
 use writer_backend::place_fault;
 use writer_backend::place_pieces;
 use writer_backend::put_name;
-use writer_backend::put_value;
 
 // A formatter without its stack: where the text goes, the number of the flags in force, the margin,
 // and how many entries are open. It is whole words, which the compiler keeps apart in registers.

@@ -10,7 +10,7 @@ ghost use Rattle.agreement.specs.Call.{opens, place, field, item, entry, value,
 ghost use Rattle.agreement.specs.Model.{step, start, counting};
 ghost use lib.IntN.{pos};
 ghost use Rattle.str_writer.specs.Value.{integer, char, str, ascii, repeated, display, debug, whole};
-ghost use Rattle.writer_backend.specs.Values.{valueOf};
+ghost use Rattle.value_writes.specs.Values.{valueOf};
 ghost use Rattle.formatter_by_value.specs.View.{viewF, viewFOut, begun};
 use agreement::Kind;
 use formatter::Head;
@@ -22,11 +22,11 @@ use formatter::sub_at;
 use formatter::value_at;
 use formatting::FormattingFlags;
 use utils::Range;
-use writer_backend::Form;
-use writer_backend::Integer;
-use writer_backend::PVariant;
+use value_writes::Form;
+use value_writes::Integer;
+use value_writes::PVariant;
+use value_writes::Width;
 use writer_backend::PlaceKind;
-use writer_backend::Width;
 use writer_backend::WriterBackend;
 
 pub struct Formatter {

@@ -14,8 +14,8 @@ use mir.Val.{toZ}
 use mir.Facts.{toZ-neg}
 use borrow.Author.Tests.{leb-true, eq-eqb, ne-eqb}
 use Rattle.agreement.specs.Call.{Call}
-use Rattle.writer_backend.specs.declared.value.Width.{Width}
-use Rattle.writer_backend.specs.Values.{bitsOf}
+use Rattle.value_writes.specs.declared.Width.{Width}
+use Rattle.value_writes.specs.Values.{bitsOf}
 use Rattle.encoded_call.proofs.Decoding.{half}
 use Rattle.fields.specs.declared.reading.Number.{Number}
 use Rattle.fields.specs.declared.reading.Number.the-variants.{Is, Other}

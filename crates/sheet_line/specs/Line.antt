@@ -11,8 +11,8 @@ use Rattle.agreement.specs.declared.Kind.the-variants.{Struct, Tuple, Set}
 use Rattle.agreement.specs.declared.Kind.the-variants as kind
 use Rattle.agreement.specs.Call.{Call, opens, place, value, finish, field, item, entry}
 use Rattle.str_writer.specs.Value.{integer, char, str, display, debug, whole}
-use Rattle.writer_backend.specs.declared.value.Width.the-variants.{W8, W16, W32, W64}
-use Rattle.writer_backend.specs.Values.{bitsOf}
+use Rattle.value_writes.specs.declared.Width.the-variants.{W8, W16, W32, W64}
+use Rattle.value_writes.specs.Values.{bitsOf}
 use Rattle.fields.specs.Fields.{bytes, same, fields}
 use Rattle.fields.specs.Decimal.{decimalOf, upTo}
 use Rattle.fields.specs.Hex.{fromHex}

@@ -7,7 +7,7 @@ use Rattle.agreement.specs.Call.{Call, opens, place, value, sub, endsub, finish
 use Rattle.str_writer.specs.Value.{Value, integer, char, str, ascii, repeated, whole}
 use Rattle.str_writer.specs.Write.{splice}
 use Rattle.encoded_call.specs.Encoding.{callOf}
-use Rattle.writer_backend.specs.Values.{formOf}
+use Rattle.value_writes.specs.Values.{formOf}
 use Rattle.sheet_line.specs.declared.Parsed.{Parsed}
 use Rattle.sheet_line.specs.declared.texts.TextCall.{TextCall}
 use Rattle.sheet_line.specs.declared.texts.TextCall.the-variants.{Open, Field, Str}

@@ -23,7 +23,7 @@ use numbers::int_type;
 use numbers::num_op;
 use texts::TextCall;
 use texts::with_text;
-use writer_backend::Form;
+use value_writes::Form;
 use writer_backend::PlaceKind;
 
 // A call as it was read from a line, `Op::Nothing` for a line of another form, and how long its

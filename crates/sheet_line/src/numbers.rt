@@ -6,7 +6,7 @@ ghost use Prim.Native.Nat.{_≤_, _-_, _^_};
 ghost use lib.IntN.{pos};
 ghost use Rattle.agreement.specs.Call.{value};
 ghost use Rattle.str_writer.specs.Value.{integer, debug};
-ghost use Rattle.writer_backend.specs.Values.{bitsOf};
+ghost use Rattle.value_writes.specs.Values.{bitsOf};
 ghost use Rattle.encoded_call.specs.Encoding.{callOf};
 ghost use Rattle.fields.specs.Decimal.{decimalOf, upTo};
 ghost use Rattle.sheet_line.specs.Line.{typeOf, negative, signedOf, numCall, charCall};
@@ -14,11 +14,11 @@ use encoded_call::Op;
 use fields::Number;
 use fields::number;
 use fields::same;
-use writer_backend::Form;
-use writer_backend::Integer;
-use writer_backend::PVariant;
-use writer_backend::Width;
-use writer_backend::greatest;
+use value_writes::Form;
+use value_writes::Integer;
+use value_writes::PVariant;
+use value_writes::Width;
+use value_writes::greatest;
 
 // The type of an integer.
 pub enum IntType {

@@ -13,8 +13,8 @@ use encoded_call::Op;
 use fields::HexBytes;
 use fields::from_hex;
 use utils::Range;
-use writer_backend::Form;
-use writer_backend::PVariant;
+use value_writes::Form;
+use value_writes::PVariant;
 use writer_backend::PlaceKind;
 
 // An opening with a name, a field of a struct, a string.

@@ -12,7 +12,7 @@ ghost use Rattle.str_writer.specs.Truncate.{truncated, truncatedUtf8};
 ghost use Rattle.agreement.specs.Model.{to, wrote, writing, counting};
 ghost use Rattle.formatting.specs.FlagsAsNumber.{flagsOf};
 ghost use Rattle.writer_backend.specs.Output.{countIn};
-ghost use Rattle.writer_backend.specs.Values.{valueOut};
+ghost use Rattle.value_writes.specs.Values.{valueOut};
 use char_encoding::char_debug_len;
 use char_encoding::char_display_len;
 use char_encoding::is_char;

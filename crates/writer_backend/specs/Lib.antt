@@ -1,4 +1,3 @@
 pub mod Output
 pub mod Pieces
 pub mod Words
-pub mod Values

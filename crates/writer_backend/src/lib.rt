@@ -2,12 +2,13 @@
 // the buffer that is lent beside it. The Rust's enum holds references; here it is two numbers.
 mod pieces;
 mod record;
-mod value;
 mod words;
 
 pub use pieces::WriterBackend;
 pub use pieces::Wrote;
+pub use pieces::add_len;
 pub use pieces::first;
+pub use pieces::from_written;
 pub use pieces::past;
 pub use pieces::put;
 pub use pieces::put_spaces;
@@ -17,10 +18,4 @@ pub use record::is_name;
 pub use record::place_fault;
 pub use record::place_pieces;
 pub use record::put_name;
-pub use value::Form;
-pub use value::Integer;
-pub use value::PVariant;
-pub use value::Width;
-pub use value::greatest;
-pub use value::put_value;
 pub use words::Word;

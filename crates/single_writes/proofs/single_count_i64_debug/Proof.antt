@@ -6,7 +6,7 @@ use mir.Syntax.{w64}
 use mir.ValLaws.{toZ-ofZ}
 use Rattle.formatting.specs.FlagsAsNumber.{flagsOf}
 use Rattle.str_writer.specs.Value.{integer, debug, textOf}
-use Rattle.writer_backend.proofs.ValueLaws.{value-counts, integer-fine}
+use Rattle.value_writes.proofs.ValueLaws.{value-counts, integer-fine}
 use borrow.Author.Needs.{needs}
 use Rattle.writer_backend.specs.declared.pieces.WriterBackend.{WriterBackend}
 use Rattle.single_writes.proofs.single_count_i64_debug.Statement.{statement}

@@ -8,7 +8,7 @@ use Rattle.error.specs.declared.Answer.the-variants.{NotUtf8}
 use Rattle.formatting.specs.Flags.{defaultFlags}
 use Rattle.str_writer.specs.Value.{str, display, whole, textOf}
 use Rattle.str_writer.proofs.Values.{str-fault, str-fine, whole-part}
-use Rattle.writer_backend.proofs.ValueLaws.{value-counts, value-refused}
+use Rattle.value_writes.proofs.ValueLaws.{value-counts, value-refused}
 use borrow.Author.Needs.{needs}
 use Rattle.writer_backend.specs.declared.pieces.WriterBackend.{WriterBackend}
 use Rattle.single_writes.proofs.single_count_str.Statement.{statement}

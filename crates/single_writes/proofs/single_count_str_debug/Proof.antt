@@ -8,7 +8,7 @@ use Rattle.error.specs.declared.Answer.the-variants.{NotUtf8}
 use Rattle.formatting.specs.Flags.{defaultFlags}
 use Rattle.str_writer.specs.Value.{str, debug, whole, textOf}
 use Rattle.str_writer.proofs.Values.{str-fault, str-fine, whole-part}
-use Rattle.writer_backend.proofs.ValueLaws.{value-counts, value-refused, quoted-length, quoted-refused}
+use Rattle.value_writes.proofs.ValueLaws.{value-counts, value-refused, quoted-length, quoted-refused}
 use Rattle.formatting.specs.Escape.{quoted}
 use borrow.Author.Needs.{needs}
 use Rattle.writer_backend.specs.declared.pieces.WriterBackend.{WriterBackend}

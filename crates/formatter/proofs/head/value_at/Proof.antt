@@ -1,7 +1,7 @@
 use borrow.Author.Tests.{not-true, not-false}
 use borrow.Author.Needs.{needs}
 use Rattle.agreement.specs.Call.{value}
-use Rattle.writer_backend.specs.Values.{valueOf}
+use Rattle.value_writes.specs.Values.{valueOf}
 use Rattle.formatter.proofs.Steps.{past-end, value-wrong, value-done}
 use Rattle.formatter.proofs.head.value_at.Statement.{statement}
 use Rattle.formatter.proofs.head.value_at.Tie as tie

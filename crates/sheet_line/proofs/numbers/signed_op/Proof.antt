@@ -6,7 +6,7 @@ use lib.ListN.{drop}
 use mir.Syntax.{w64}
 use mir.Facts.{toZ-pos}
 use borrow.Author.Needs.{needs}
-use Rattle.writer_backend.specs.Values.{bitsOf}
+use Rattle.value_writes.specs.Values.{bitsOf}
 use Rattle.sheet_line.proofs.Decimals.{is-read, other-read, in-limit, greatest-half, least-half, signed-empty, signed-minus, signed-plain}
 use Rattle.sheet_line.proofs.numbers.signed_op.Statement.{statement}
 use Rattle.sheet_line.proofs.numbers.signed_op.Tie as tie

@@ -1,7 +1,7 @@
 use Prim.Native.Nat.{_-_, _^_}
 use native.Mathlib.Omega.{arith}
 use borrow.Author.Needs.{needs}
-use Rattle.writer_backend.specs.Values.{bitsOf}
+use Rattle.value_writes.specs.Values.{bitsOf}
 use Rattle.sheet_line.proofs.Decimals.{is-read, other-read}
 use Rattle.sheet_line.proofs.numbers.unsigned_op.Statement.{statement}
 use Rattle.sheet_line.proofs.numbers.unsigned_op.Tie as tie
