@@ -37,7 +37,7 @@ fn kind_number(k: Kind) -> u32
 }
 
 // The entry that a number is.
-pub fn unpack(n: u32) -> Entry
+pub(crate) fn unpack(n: u32) -> Entry
     ensures { λ r. ⌜ r ≡ entryOf n ⌝ }
 {
     if n % 2 == 0 {
@@ -50,7 +50,7 @@ pub fn unpack(n: u32) -> Entry
 }
 
 // A number that is a builder.
-pub fn pack_builder(k: Kind, has: bool, held: u8) -> u32
+pub(crate) fn pack_builder(k: Kind, has: bool, held: u8) -> u32
     requires { ⌜ held < 8 ⌝ }
     ensures { λ r. ⌜ entryOf r ≡ builder k has held ⌝ }
 {
@@ -61,7 +61,7 @@ pub fn pack_builder(k: Kind, has: bool, held: u8) -> u32
 }
 
 // A number that is a sub-formatter.
-pub fn pack_outer(flags: FormattingFlags, margin: u16) -> u32
+pub(crate) fn pack_outer(flags: FormattingFlags, margin: u16) -> u32
     ensures { λ r. ⌜ entryOf r ≡ outer flags margin ⌝ }
 {
     let a = flags_number(flags) as u32;

@@ -1,7 +1,6 @@
 pub mod Splice
 pub mod Outcomes
 pub mod Values
-pub mod Quoting
 pub mod Truncation
 pub mod AsciiText
 pub mod Utf8Text

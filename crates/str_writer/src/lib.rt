@@ -2,7 +2,6 @@
 // fmt/str_writer_mut.rs).
 mod cursor;
 mod piece;
-mod quoted;
 mod strings;
 
 pub use cursor::as_bytes;
@@ -17,10 +16,6 @@ pub use cursor::truncate;
 pub use cursor::truncate_utf8;
 pub use piece::Written;
 pub use piece::put;
-pub use quoted::write_ascii_debug;
-pub use quoted::write_ascii_range_debug;
-pub use quoted::write_str_debug;
-pub use quoted::write_str_range_debug;
 pub use strings::write_ascii;
 pub use strings::write_ascii_range;
 pub use strings::write_ascii_repeated;

@@ -65,7 +65,7 @@ impl<'w> StrWriterMut<'w> {
         ensures { λ r. ⌜ Gives r (now (self .entry)) (now (self .exit)) (write defaultFlags (now (now (self .entry) .buffer)) (now (self .entry) .len) (str debug (now (s .entry)) (whole (now (s .entry))))) ⌝ }
     {
         let at = self.len;
-        let r = str_writer::write_str_debug(&mut *self.buffer, at, s);
+        let r = quoted_writes::write_str_debug(&mut *self.buffer, at, s);
         self.len = r.at;
         r.answer
     }

@@ -24,17 +24,17 @@ pub(crate) fn play(call: Call, s: &[u8], buf: &mut [u8], at: usize) -> Written {
     match call {
         Call::Str => str_writer::write_str(buf, at, s),
         Call::StrRange(start, end) => str_writer::write_str_range(buf, at, s, Range { start, end }),
-        Call::StrDebug => str_writer::write_str_debug(buf, at, s),
+        Call::StrDebug => quoted_writes::write_str_debug(buf, at, s),
         Call::StrRangeDebug(start, end) => {
-            str_writer::write_str_range_debug(buf, at, s, Range { start, end })
+            quoted_writes::write_str_range_debug(buf, at, s, Range { start, end })
         }
         Call::Ascii => str_writer::write_ascii(buf, at, s),
         Call::AsciiRange(start, end) => {
             str_writer::write_ascii_range(buf, at, s, Range { start, end })
         }
-        Call::AsciiDebug => str_writer::write_ascii_debug(buf, at, s),
+        Call::AsciiDebug => quoted_writes::write_ascii_debug(buf, at, s),
         Call::AsciiRangeDebug(start, end) => {
-            str_writer::write_ascii_range_debug(buf, at, s, Range { start, end })
+            quoted_writes::write_ascii_range_debug(buf, at, s, Range { start, end })
         }
         Call::AsciiRepeated(c, n) => str_writer::write_ascii_repeated(buf, at, c, n),
         Call::Char(c) => str_writer::write_char(buf, at, c),

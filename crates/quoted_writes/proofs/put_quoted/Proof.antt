@@ -3,10 +3,10 @@ use Prim.Native.Nat.{_+_, _≤_}
 use native.Mathlib.Omega.{arith}
 use lib.ListN.{length, length-set}
 use Rattle.formatting.specs.Escape.{escaped}
-use Rattle.str_writer.proofs.Quoting.{zero-over, some-fits, spare, quoted-none, quoted-over, quoted-done}
+use Rattle.quoted_writes.proofs.Quoting.{zero-over, some-fits, spare, quoted-none, quoted-over, quoted-done}
 use borrow.Author.Needs.{needs}
-use Rattle.str_writer.proofs.quoted.put_quoted.Statement.{statement}
-use Rattle.str_writer.proofs.quoted.put_quoted.Tie as tie
+use Rattle.quoted_writes.proofs.put_quoted.Statement.{statement}
+use Rattle.quoted_writes.proofs.put_quoted.Tie as tie
 
 sub-room : tie.Need-sub-room
 sub-room c = search needs

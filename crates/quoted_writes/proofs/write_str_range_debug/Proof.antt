@@ -6,12 +6,12 @@ use Rattle.error.specs.declared.Answer.the-variants.{NotUtf8, NotOnCharBoundary
 use Rattle.utf8.specs.Utf8.{wellFormed}
 use Rattle.utils.specs.Text.{saturated, isBoundary}
 use Rattle.formatting.specs.Flags.{defaultFlags}
 use Rattle.str_writer.specs.Value.{str, debug}
 use Rattle.str_writer.proofs.Outcomes.{write-bad, write-input, write-cut}
 use Rattle.str_writer.proofs.Values.{str-fault, str-fine, str-cut-start, str-cut-end, str-uncut, clamped-part, str-placed}
 use borrow.Author.Needs.{needs}
-use Rattle.str_writer.proofs.quoted.write_str_range_debug.Statement.{statement}
-use Rattle.str_writer.proofs.quoted.write_str_range_debug.Tie as tie
+use Rattle.quoted_writes.proofs.write_str_range_debug.Statement.{statement}
+use Rattle.quoted_writes.proofs.write_str_range_debug.Tie as tie
 
 returns : tie.Need-returns
 returns c = let a = c .before .before .before .args in write-bad defaultFlags (a .buf .now) (a .at) (str debug (a .s .now) (a .range)) (c .if1 .taken)

@@ -4,9 +4,9 @@ use native.Mathlib.Omega.{arith}
 use lib.ListN.{length-set}
 use borrow.Author.Needs.{needs}
 use Rattle.formatting.specs.declared.escaping.Escape.the-variants.{Bare, Backslash, Hexadecimal}
-use Rattle.str_writer.proofs.Quoting.{piece-over, piece-fits}
-use Rattle.str_writer.proofs.quoted.put_escape.Statement.{statement}
-use Rattle.str_writer.proofs.quoted.put_escape.Tie as tie
+use Rattle.quoted_writes.proofs.Quoting.{piece-over, piece-fits}
+use Rattle.quoted_writes.proofs.put_escape.Statement.{statement}
+use Rattle.quoted_writes.proofs.put_escape.Tie as tie
 
 escape-of-requires : tie.Need-escape-of-requires
 escape-of-requires c κs = search needs

@@ -3,15 +3,15 @@ use mathlib.Core.List.{[]}
 use Prim.Native.Nat.{_+_, _-_, _≤_, _<_}
 use lib.ListN.{length, drop, getD, length-drop, drop-of-length-le}
 use Rattle.formatting.specs.Escape.{escaped}
 use Rattle.str_writer.specs.QuotedLeaves.{costOf, leading}
 use Rattle.str_writer.specs.Write.{splice}
 use borrow.Author.Needs.{needs}
 use borrow.Author.Tests.{lt-ltb, le-ltb}
 use Rattle.str_writer.proofs.Splice.{splice-nil}
-use Rattle.str_writer.proofs.Quoting.{zero-over, some-fits, byteText, byte-some, escaped-long, escaped-turn, leading-last, leading-turn}
+use Rattle.quoted_writes.proofs.Quoting.{zero-over, some-fits, byteText, byte-some, escaped-long, escaped-turn, leading-last, leading-turn}
 use native.Mathlib.Omega.{arith}
-use Rattle.str_writer.proofs.quoted.put_escaped.Statement.{statement}
-use Rattle.str_writer.proofs.quoted.put_escaped.Tie as tie
+use Rattle.quoted_writes.proofs.put_escaped.Statement.{statement}
+use Rattle.quoted_writes.proofs.put_escaped.Tie as tie
 
 -- The invariant: what is left to write, with what is left to spend, gives the whole.
 abbrev Inv-loop : tie.InvT-loop

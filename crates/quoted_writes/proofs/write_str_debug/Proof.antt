@@ -4,12 +4,12 @@ use borrow.Author.Tests.{not-true, not-false}
 use Rattle.error.specs.declared.Answer.the-variants.{NotUtf8}
 use Rattle.utf8.specs.Utf8.{wellFormed}
 use Rattle.formatting.specs.Flags.{defaultFlags}
 use Rattle.str_writer.specs.Value.{str, debug, whole}
 use Rattle.str_writer.proofs.Outcomes.{write-bad, write-input}
 use Rattle.str_writer.proofs.Values.{str-fault, whole-part, whole-uncut, str-placed}
 use borrow.Author.Needs.{needs}
-use Rattle.str_writer.proofs.quoted.write_str_debug.Statement.{statement}
-use Rattle.str_writer.proofs.quoted.write_str_debug.Tie as tie
+use Rattle.quoted_writes.proofs.write_str_debug.Statement.{statement}
+use Rattle.quoted_writes.proofs.write_str_debug.Tie as tie
 
 returns : tie.Need-returns
 returns c = let a = c .before .before .before .args in write-bad defaultFlags (a .buf .now) (a .at) (str debug (a .s .now) (whole (a .s .now))) (c .if1 .taken)

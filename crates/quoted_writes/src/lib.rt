@@ -1,4 +1,4 @@
-// Quoted strings and quoted ASCII text.
+// Quoted strings and quoted ASCII text written at a cursor (fmt/str_writer_mut.rs).
 ghost use mathlib.Core.Path.{_≡_};
 ghost use Prim.Native.Nat.{_+_, _-_, _≤_, _<_};
 ghost use mathlib.Core.Bool.{cond};
@@ -7,16 +7,16 @@ ghost use lib.Dec.{ltb};
 ghost use lib.ListN.{length};
 ghost use Rattle.formatting.specs.Escape.{escapeOf, escapeText, escaped, quoted};
 ghost use Rattle.formatting.specs.Flags.{defaultFlags};
 ghost use Rattle.str_writer.specs.QuotedLeaves.{costOf, leading, quotedLeaves};
 ghost use Rattle.str_writer.specs.Value.{str, ascii, debug, whole};
 ghost use Rattle.str_writer.specs.Write.{outcome, splice, placed, write};
-use crate::piece::Written;
 use ascii_str::AsciiStr;
 use error::Answer;
 use formatting::Escape;
 use formatting::HexFormatting;
 use formatting::escape_of;
 use formatting::hex_as_ascii;
+use str_writer::Written;
 use utf8::is_utf8;
 use utils::Range;
 use utils::is_char_boundary;

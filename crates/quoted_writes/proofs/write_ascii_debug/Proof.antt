@@ -1,12 +1,12 @@
 use mathlib.Core.Path.{sym, _∙_}
 use Rattle.error.specs.declared.Answer.the-variants.{NotAscii}
 use Rattle.formatting.specs.Flags.{defaultFlags}
 use Rattle.str_writer.specs.Value.{ascii, debug, whole}
 use Rattle.str_writer.proofs.Outcomes.{write-bad, write-input}
 use Rattle.str_writer.proofs.Values.{ascii-fault, whole-part, ascii-placed}
 use borrow.Author.Needs.{needs}
-use Rattle.str_writer.proofs.quoted.write_ascii_debug.Statement.{statement}
-use Rattle.str_writer.proofs.quoted.write_ascii_debug.Tie as tie
+use Rattle.quoted_writes.proofs.write_ascii_debug.Statement.{statement}
+use Rattle.quoted_writes.proofs.write_ascii_debug.Tie as tie
 
 returns : tie.Need-returns
 returns c = let a = c .before .before .before .args in write-bad defaultFlags (a .buf .now) (a .at) (ascii debug (a .s .now) (whole (a .s .now))) (c .if1 .taken)
