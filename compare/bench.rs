@@ -13,7 +13,7 @@ use const_format::{ComputeStrLength, Formatter, StrWriterMut};
 use std::hint::black_box;
 use std::time::Instant;
 
-const ROUNDS: usize = 41;
+const ROUNDS: usize = 401;
 
 fn round(n: u64, f: &mut dyn FnMut(u64)) -> f64 {
     let start = Instant::now();
