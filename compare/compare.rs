@@ -714,9 +714,9 @@ fn hex(bytes: &[u8]) -> String {
     bytes.iter().map(|b| format!("{b:02X}")).collect()
 }
 
-/// Prints runs with const_format's answers: flags, cursor, size of the buffer, how many words, the
-/// words, the texts in hexadecimal, the first refusal and the total of counting, the first refusal
-/// and the cursor of writing, and the buffer in hexadecimal.
+/// Prints runs with const_format's answers, their fields parted by commas: flags, cursor, size of the
+/// buffer, how many words, the words, the texts in hexadecimal, the first refusal and the total of
+/// counting, the first refusal and the cursor of writing, and the buffer in hexadecimal.
 fn sample(r: &mut Random, count: u64) {
     let mut printed = 0;
     while printed < count {
@@ -733,9 +733,9 @@ fn sample(r: &mut Random, count: u64) {
         let (written, cursor) = rust_write(&run, flags, &mut b, at);
         let numbers: Vec<String> = words.calls.iter().map(u64::to_string).collect();
         println!(
-            "{flags} {at} {size} {} {} {} {} {total} {} {cursor} {}",
+            "{flags},{at},{size},{},{},{},{},{total},{},{cursor},{}",
             numbers.len(),
-            numbers.join(" "),
+            numbers.join(","),
             hex(&words.text),
             first_refusal(&counted),
             first_refusal(&written),

@@ -11,5 +11,7 @@ pub use hex::HexBytes;
 pub use hex::from_hex;
 pub use hex::put_hex;
 pub use reading::Number;
+pub use words::first_field;
 pub use words::index_of;
+pub use words::later_fields;
 pub use words::same;

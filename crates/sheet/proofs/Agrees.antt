@@ -24,7 +24,8 @@ use Rattle.sheet_line.specs.declared.begin.Begin.the-variants.{Bad, BadCursor, 
 use Rattle.sheet_line.specs.Begin.{flagFields, sized, sizeFields, beginFields, beginOf}
 use Rattle.sheet_line.specs.Line.{callOfLine}
 use Rattle.sheet.specs.Sheet.{Sheet, freshSheet, Stepped, stepped, endLine, endText}
-use Rattle.sheet.specs.Printed.{linesOf, printedFrom, printedAfter, printedLines, printed}
+use Rattle.lines.specs.Lines.{linesOf}
+use Rattle.sheet.specs.Printed.{printedFrom, printedAfter, printedLines, printed}
 use Rattle.sheet.specs.SheetAgreement.{rowsFrom, sheetAfter, rowsText, AllZero, sheetRows, SheetOf, Shows, SheetAgrees}
 
 -- a run that begins has its cursor in the buffer

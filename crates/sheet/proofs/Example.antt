@@ -14,7 +14,8 @@ use Rattle.fields.specs.Hex.{isHex, hexBytes, hexPairs}
 use Rattle.sheet_line.specs.Begin.{formatOf, digitsOf, layoutOf, beginOf}
 use Rattle.sheet_line.specs.Line.{typeOf, oneField, twoFields, openNamed, threeFields, callOfLine}
 use Rattle.sheet.specs.Sheet.{rowText, endLine}
-use Rattle.sheet.specs.Printed.{linesOf, printed}
+use Rattle.lines.specs.Lines.{linesOf}
+use Rattle.sheet.specs.Printed.{printed}
 use Rattle.sheet.specs.SheetAgreement.{SheetOf}
 
 abbrev pub input : List ℕ

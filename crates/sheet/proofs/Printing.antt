@@ -3,7 +3,7 @@ use mathlib.Core.Path.{_≡_, refl, ap, sym, _∙_}
 use mathlib.Core.List.{List, [], _∷_, _++_}
 use Prim.Native.Nat.{ℕ, _+_, _-_, _*_, _/_, _≤_, _<_}
 use native.Mathlib.Omega.{arith}
-use lib.ListN.{length, take, drop, length-append}
+use lib.ListN.{length, take, drop, length-append, length-take}
 use lib.Seq.{take-append-seam}
 use Rattle.error.specs.declared.Answer.the-variants.{Done}
 use Rattle.str_writer.specs.declared.piece.Written.{Written}
@@ -63,6 +63,9 @@ module _ (total cursor : ℕ) (s : List ℕ) where
   unfolding endLine
   end-length = length-append (head ++ hexPairs s) (10 ∷ []) ∙ ap (λ (n : ℕ). n + 1) (length-append head (hexPairs s) ∙ ap (λ (n : ℕ). length head + n) (pairs-length s))
 
+  pub end-short : {len : ℕ} → len ≡ length (bytes "end," ++ cell total 44 ++ cell cursor 44) → len ≤ 46 → length (endLine total cursor s) ≤ 47 + 2 * length s
+  end-short p h = omega (arith, end-length)
+
   module _ (b : List ℕ) (at : ℕ) (z : List ℕ) (len : ℕ) (x : List ℕ) (p : len ≡ length head) (q : x ≡ splice z 0 head) where
     pub end-put : (w₁ w₂ w₃ : Written) (c₁ c₂ c₃ : List ℕ) → at ≤ length b → len < length b - at → length s ≤ (length b - at - len - 1) / 2
         → outcome w₁ c₁ ≡ put b at (take (len - 0) x) → outcome w₂ c₂ ≡ put c₁ (w₁ .at) (hexPairs s) → outcome w₃ c₃ ≡ put c₂ (w₂ .at) (10 ∷ [])
@@ -74,3 +77,7 @@ module _ (total cursor : ℕ) (s : List ℕ) where
         let e₁ = f₁ ∙ ap (λ (t : List ℕ). put b at t) (laid-text z head len x p q) in
         let e₂ = f₂ ∙ put-next b at head w₁ c₁ e₁ (hexPairs s) (omega arith) in
         f₃ ∙ put-next b at (head ++ hexPairs s) w₂ c₂ e₂ (10 ∷ []) (omega arith)
+
+-- the last line of a part of the bytes is as short as that of all
+pub end-part : (total cursor : ℕ) (b s : List ℕ) (n : ℕ) → s ≡ take n b → length (endLine total cursor s) ≤ 47 + 2 * length s → length (endLine total cursor (take n b)) ≤ 47 + 2 * length b
+end-part total cursor b s n e h = let k : length (take n b) ≤ length b = rw length-take (omega arith) in let g = rw e at h in omega arith

@@ -3,7 +3,7 @@ use mathlib.Core.Bool.{Bool, true, false}
 use mathlib.Core.Option.{Option, none, some}
 use mathlib.Core.Path.{_≡_, refl, ap, sym, _∙_}
 use mathlib.Core.List.{List, [], _∷_}
-use Prim.Native.Nat.{ℕ, zero, suc}
+use Prim.Native.Nat.{ℕ, zero, suc, _≤_}
 use native.Mathlib.Omega.{arith}
 use lib.ListN.{length, take}
 use Rattle.agreement.specs.Call.{Call}
@@ -17,7 +17,7 @@ use Rattle.formatter.specs.declared.head.HeadStep.{HeadStep}
 use Rattle.formatter.specs.View.{view, viewOut}
 use Rattle.encoded_call.specs.Encoding.{stepOr}
 use Rattle.sheet.specs.declared.Sheet as code
-use Rattle.sheet.specs.Sheet.{Sheet, rowText, rowOf, badText}
+use Rattle.sheet.specs.Sheet.{Sheet, rowText, rowOf, badText, stepped}
 use Rattle.sheet.specs.SheetView.{sheetOf, isSome, Step, steppedOf, stepping, LineAnswer, answering}
 
 number-of : (t n : ℕ) → numberIn (asMode t n) ≡ n
@@ -57,3 +57,11 @@ module _ (k : ℕ) (S : Sheet) (o : Option Call) (out : List ℕ) (at : ℕ) (w 
 
   pub answer-call : (c : Call) (t : Step) → o ≡ some c → t ≡ stepping k S c → outcome w out' ≡ put out at (rowText (t .row)) → _≡_ {A = LineAnswer} (record { isCall = true; sheet = t .sheet; printed = outcome w out' }) (answering k S o out at)
   answer-call c t e q p = rw (p, q, e)
+
+-- what a line prints is short
+module _ (k : ℕ) (S : Sheet) (o : Option Call) where
+  pub short-bad : o ≡ none → length (badText k) ≤ 25 → length (stepped k S o .text) ≤ 105
+  short-bad e h = rw e (omega arith)
+
+  pub short-call : (c : Call) (t : Step) → o ≡ some c → t ≡ stepping k S c → length (rowText (t .row)) ≤ 105 → length (stepped k S o .text) ≤ 105
+  short-call c t e q h = rw e (rw q at h)

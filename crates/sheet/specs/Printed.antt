@@ -2,19 +2,13 @@
 use mathlib.Core.Bool.{cond}
 use mathlib.Core.List.{List, [], _∷_, _++_}
 use Prim.Native.Nat.{ℕ, suc}
-use lib.Dec.{eqb}
 use lib.ListN.{replicate}
-use Rattle.fields.specs.Fields.{longer}
+use Rattle.lines.specs.Lines.{linesOf}
 use Rattle.sheet_line.specs.declared.begin.Begin.{Begin}
 use Rattle.sheet_line.specs.declared.begin.Begin.the-variants.{Bad, BadCursor, Fresh}
 use Rattle.sheet_line.specs.Begin.{beginOf}
 use Rattle.sheet_line.specs.Line.{callOfLine}
 use Rattle.sheet.specs.Sheet.{Sheet, freshSheet, badText, refusedText, endText, Stepped, stepped}
-
--- 'The call sheet': lines end in a line feed, which the last may lack
-unfoldable pub linesOf : List ℕ → List (List ℕ)
-linesOf [] = []
-linesOf (b ∷ s) = cond (eqb b 10) ([] ∷ linesOf s) (longer b (linesOf s))
 
 -- 'The call sheet': from line k on; `bad` ends the run without `end`
 abbrev pub printedFrom : ℕ → Sheet → List (List ℕ) → List ℕ

@@ -2,7 +2,7 @@
 use mathlib.Core.Bool.{Bool, true, false}
 use mathlib.Core.List.{List, [], _∷_, _++_}
 use mathlib.Core.Option.{Option, none, some}
-use Prim.Native.Nat.{ℕ}
+use Prim.Native.Nat.{ℕ, _+_, _*_}
 use lib.ListN.{take}
 use Rattle.formatting.specs.declared.flags.FormattingFlags.{FormattingFlags}
 use Rattle.agreement.specs.Call.{Call}
@@ -25,6 +25,10 @@ freshSheet b p f = record { counted = start (counting 0) [] f; written = start (
 unfoldable pub rowText : Row → List ℕ
 rowText r = cell (r .line) 44 ++ cell (r .«counting_answer») 44 ++ cell (r .total) 44 ++ cell (r .«writing_answer») 44 ++ cell (r .cursor) 10
 
+-- 'The call sheet': the most bytes of a row: five numbers of at most 20 digits, each with the byte behind it
+abbrev pub maxRow : ℕ
+maxRow = 105
+
 -- 'The call sheet': the row of what both runs answer
 abbrev pub rowOf : ℕ → Out → Out → Row
 rowOf k c w = record { line = k; «counting_answer» = c .answer; total = numberIn (c .state .output .mode); «writing_answer» = w .answer; cursor = numberIn (w .state .output .mode) }
@@ -40,6 +44,10 @@ refusedText = bytes "1,9\n"
 -- 'The call sheet': `end`, total, cursor, bytes before the cursor as HEX
 unfoldable pub endLine : ℕ → ℕ → List ℕ → List ℕ
 endLine total cursor b = bytes "end," ++ cell total 44 ++ cell cursor 44 ++ hexPairs b ++ (10 ∷ [])
+
+-- 'The call sheet': the most bytes of a last line that shows n bytes: `end,`, two such numbers, n pairs, a line feed
+abbrev pub maxEnd : ℕ → ℕ
+maxEnd n = 47 + 2 * n
 
 -- 'The call sheet': the last line of a sheet
 abbrev pub endText : Sheet → List ℕ

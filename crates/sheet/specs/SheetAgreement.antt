@@ -14,7 +14,8 @@ use Rattle.sheet_line.specs.Begin.{beginOf}
 use Rattle.sheet_line.specs.Line.{callOfLine}
 use Rattle.sheet.specs.declared.print.Row.{Row}
 use Rattle.sheet.specs.Sheet.{Sheet, rowText, rowOf, freshSheet, endLine, endText}
-use Rattle.sheet.specs.Printed.{linesOf, printed}
+use Rattle.lines.specs.Lines.{linesOf}
+use Rattle.sheet.specs.Printed.{printed}
 
 -- demand 3 on a sheet: the rows of a list of calls, from line k on
 abbrev pub rowsFrom : ℕ → Sheet → List Call → List Row

@@ -4,12 +4,13 @@ mod print;
 
 ghost use mathlib.Core.Path.{_≡_};
 ghost use mathlib.Core.List.{List};
-ghost use Prim.Native.Nat.{ℕ};
+ghost use Prim.Native.Nat.{ℕ, _≤_};
+ghost use lib.ListN.{length};
 ghost use Rattle.str_writer.specs.Write.{outcome, splice};
 ghost use Rattle.str_writer.specs.Write.{put as putText};
 ghost use Rattle.sheet_line.specs.Line.{callOfLine};
 ghost use Rattle.sheet_line.specs.Reading.{textIn};
-ghost use Rattle.sheet.specs.Sheet.{freshSheet, endText};
+ghost use Rattle.sheet.specs.Sheet.{freshSheet, maxRow, endText, maxEnd, stepped};
 ghost use mathlib.Core.Option.{some};
 ghost use Rattle.agreement.specs.Call.{Call};
 ghost use Rattle.encoded_call.specs.Encoding.{callOf};
@@ -126,6 +127,7 @@ pub fn answer_line(
     at: usize,
 ) -> Answered
     ensures { λ r. ⌜ answered r (now (counted .exit)) (now (written .exit)) (now (buf .exit)) (now (out .exit)) ≡ answering line (sheetOf sheet (now (counted .entry)) (now (written .entry)) (now (buf .entry))) (callOfLine (now (l .entry))) (now (out .entry)) at ⌝ }
+    ensures { λ _. ⌜ length (stepped line (sheetOf sheet (now (counted .entry)) (now (written .entry)) (now (buf .entry))) (callOfLine (now (l .entry))) .text) ≤ maxRow ⌝ }
     ensures { λ r. ⌜ now (text .exit) ≡ splice (now (text .entry)) 0 (textIn (callOfLine (now (l .entry)))) ⌝ }
 {
     let parsed = parse_line(l, text);
@@ -153,6 +155,7 @@ pub fn answer_line(
 // Prints the last line of a sheet.
 pub fn end_sheet(sheet: Sheet, buf: &[u8], out: &mut [u8], at: usize) -> Written
     ensures { λ r. ⌜ ((c w : List ℕ) → outcome r (now (out .exit)) ≡ putText (now (out .entry)) at (endText (sheetOf sheet c w (now (buf .entry))))) ⌝ }
+    ensures { λ _. ⌜ ((c w : List ℕ) → length (endText (sheetOf sheet c w (now (buf .entry)))) ≤ maxEnd (length (now (buf .entry)))) ⌝ }
 {
     let counted = sheet.counted;
     let written = sheet.written;

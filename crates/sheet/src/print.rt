@@ -7,7 +7,7 @@ ghost use Rattle.str_writer.specs.Write.{outcome, splice};
 ghost use Rattle.str_writer.specs.Write.{put as putText};
 ghost use Rattle.fields.specs.Fields.{bytes};
 ghost use Rattle.fields.specs.Decimal.{cell};
-ghost use Rattle.sheet.specs.Sheet.{rowText, badText, refusedText, endLine};
+ghost use Rattle.sheet.specs.Sheet.{rowText, maxRow, badText, refusedText, endLine, maxEnd};
 use error::Answer;
 use fields::put_hex;
 use fields::put_number;
@@ -39,6 +39,7 @@ fn lay_row(out: &mut [u8], row: Row) -> usize
 // Prints a row at the cursor, or leaves the buffer as it is.
 pub fn put_row(out: &mut [u8], at: usize, row: Row) -> Written
     ensures { λ r. ⌜ outcome r (now (out .exit)) ≡ putText (now (out .entry)) at (rowText row) ⌝ }
+    ensures { λ _. ⌜ length (rowText row) ≤ maxRow ⌝ }
 {
     let mut text = [0u8; 105];
     let len = lay_row(&mut text, row);
@@ -58,6 +59,7 @@ fn lay_bad(out: &mut [u8], line: u64) -> usize
 // Prints the number of a line and `bad`.
 pub fn put_bad(out: &mut [u8], at: usize, line: u64) -> Written
     ensures { λ r. ⌜ outcome r (now (out .exit)) ≡ putText (now (out .entry)) at (badText line) ⌝ }
+    ensures { λ _. ⌜ length (badText line) ≤ 25 ⌝ }
 {
     let mut text = [0u8; 25];
     let len = lay_bad(&mut text, line);
@@ -85,6 +87,7 @@ fn lay_end(out: &mut [u8], total: u64, cursor: u64) -> usize
 // Prints the last line, of a total, a cursor and the bytes before it.
 pub fn put_end(out: &mut [u8], at: usize, total: u64, cursor: u64, s: &[u8]) -> Written
     ensures { λ r. ⌜ outcome r (now (out .exit)) ≡ putText (now (out .entry)) at (endLine total cursor (now (s .entry))) ⌝ }
+    ensures { λ _. ⌜ length (endLine total cursor (now (s .entry))) ≤ maxEnd (length (now (s .entry))) ⌝ }
 {
     let mut text = [0u8; 46];
     let len = lay_end(&mut text, total, cursor);

@@ -8,6 +8,7 @@ use lib.ListN.{length}
 use Rattle.formatting.specs.declared.flags.FormattingFlags.{FormattingFlags}
 use Rattle.formatting.specs.declared.flags.NumberFormatting.the-variants.{Decimal, Hexadecimal, Binary}
 use Rattle.formatting.specs.declared.flags.HexFormatting.the-variants.{Upper, Lower}
+use Rattle.lines.specs.Lines.{maxLine}
 use Rattle.fields.specs.Fields.{bytes, same, fields}
 use Rattle.fields.specs.Decimal.{decimalOf, upTo}
 use Rattle.sheet_line.specs.declared.begin.Format.{Format}
@@ -55,11 +56,15 @@ sized (some n) none f = Bad
 sized (some n) (some p) NoFlags = Bad
 sized (some n) (some p) (Are f) = cond (ltb n p) BadCursor (Fresh n p f)
 
--- 'The call sheet': n at most 4,096, p no number above 2^64 - 1
+-- 'The call sheet': n at most 4,096
+abbrev pub maxSize : ℕ
+maxSize = 4096
+
+-- 'The call sheet': p no number above 2^64 - 1
 abbrev pub sizeFields : List (List ℕ) → Begin
 sizeFields [] = Bad
 sizeFields (n ∷ []) = Bad
-sizeFields (n ∷ p ∷ fs) = sized (upTo 4096 (decimalOf n)) (upTo (2 ^ 64 - 1) (decimalOf p)) (flagFields fs)
+sizeFields (n ∷ p ∷ fs) = sized (upTo maxSize (decimalOf n)) (upTo (2 ^ 64 - 1) (decimalOf p)) (flagFields fs)
 
 -- 'The call sheet': the fields of line 1
 abbrev pub beginFields : List (List ℕ) → Begin
@@ -68,4 +73,4 @@ beginFields (w ∷ fs) = cond (same w (bytes "begin")) (sizeFields fs) Bad
 
 -- 'The call sheet': how line 1 begins a run; a line above 4,096 bytes is bad
 unfoldable pub beginOf : List ℕ → Begin
-beginOf l = cond (ltb 4096 (length l)) Bad (beginFields (fields l))
+beginOf l = cond (ltb maxLine (length l)) Bad (beginFields (fields l))

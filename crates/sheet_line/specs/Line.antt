@@ -13,6 +13,7 @@ use Rattle.agreement.specs.Call.{Call, opens, place, value, finish, field, item
 use Rattle.str_writer.specs.Value.{integer, char, str, display, debug, whole}
 use Rattle.value_writes.specs.declared.Width.the-variants.{W8, W16, W32, W64}
 use Rattle.value_writes.specs.Values.{bitsOf}
+use Rattle.lines.specs.Lines.{maxLine}
 use Rattle.fields.specs.Fields.{bytes, same, fields}
 use Rattle.fields.specs.Decimal.{decimalOf, upTo}
 use Rattle.fields.specs.Hex.{fromHex}
@@ -103,4 +104,4 @@ callFields (w ∷ a ∷ b ∷ x ∷ fs) = none
 
 -- 'The call sheet': the call that a line means; a line above 4,096 bytes is none
 unfoldable pub callOfLine : List ℕ → Option Call
-callOfLine l = cond (ltb 4096 (length l)) none (callFields (fields l))
+callOfLine l = cond (ltb maxLine (length l)) none (callFields (fields l))

@@ -11,6 +11,10 @@ use fields::same;
 use formatting::FormattingFlags;
 use formatting::HexFormatting;
 use formatting::NumberFormatting;
+use lines::MAX_LINE;
+
+// The greatest size of a sheet's buffer.
+pub const MAX_SIZE: u64 = 4096;
 
 // How line 1 begins a run: a buffer's size, a cursor in it, and flags.
 pub enum Begin {
@@ -149,7 +153,7 @@ fn size_fields(s: &[u8]) -> Begin
     if j == rest.len() {
         return Begin::Bad;
     }
-    let n = number(&s[0..i], 4096);
+    let n = number(&s[0..i], MAX_SIZE);
     let p = number(&rest[0..j], u64::MAX);
     sized(n, p, flag_fields(&rest[j + 1..]))
 }
@@ -158,7 +162,7 @@ fn size_fields(s: &[u8]) -> Begin
 pub fn parse_begin(l: &[u8]) -> Begin
     ensures { λ r. ⌜ r ≡ beginOf (now (l .entry)) ⌝ }
 {
-    if 4096 < l.len() {
+    if MAX_LINE < l.len() {
         return Begin::Bad;
     }
     let i = index_of(l, b',');

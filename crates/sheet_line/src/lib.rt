@@ -14,10 +14,12 @@ ghost use Rattle.fields.specs.Fields.{fields};
 ghost use Rattle.sheet_line.specs.Reading.{reading, readInto};
 use agreement::Kind;
 pub use begin::Begin;
+pub use begin::MAX_SIZE;
 pub use begin::parse_begin;
 use encoded_call::Op;
 use fields::index_of;
 use fields::same;
+use lines::MAX_LINE;
 use numbers::char_op;
 use numbers::int_type;
 use numbers::num_op;
@@ -144,7 +146,7 @@ fn line_fields(l: &[u8], text: &mut [u8]) -> Parsed
 pub fn parse_line(l: &[u8], text: &mut [u8; 2048]) -> Parsed
     ensures { λ r. ⌜ reading r (now (text .exit)) ≡ readInto (now (text .entry)) (callOfLine (now (l .entry))) ⌝ }
 {
-    if 4096 < l.len() {
+    if MAX_LINE < l.len() {
         return without_text(Op::Nothing);
     }
     line_fields(l, text)

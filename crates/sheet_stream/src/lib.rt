@@ -1,7 +1,22 @@
-// A call sheet read from one descriptor and answered on another (document 01, 'The call sheet').
-// What was read is answered before more is awaited. Which bytes are read and written is not proved.
-use fields::index_of;
+// A call sheet answered as its input comes, in pieces (document 01, 'The call sheet'): the steps of
+// a program that reads and writes, on the bytes that it lends. What was read is answered before more
+// is awaited.
+ghost use mathlib.Core.Bool.{true, false};
+ghost use mathlib.Core.Path.{_≡_};
+ghost use mathlib.Core.List.{List, [], _++_};
+ghost use Prim.Native.Nat.{ℕ, _+_, _≤_};
+ghost use lib.ListN.{length, take, replicate};
+ghost use Rattle.lines.specs.Played.{begins};
+ghost use Rattle.sheet_line.specs.Begin.{maxSize};
+ghost use Rattle.sheet.specs.Sheet.{maxRow, maxEnd};
+ghost use Rattle.sheet.specs.SheetView.{sheetOf};
+ghost use Rattle.sheet_stream.specs.Left.{first, later, left, stageOf, Answers};
+ghost use Rattle.sheet_stream.specs.Step.{atOf, Sized, Onward, Ready, stoppedOf, Halts, Stepped, isDue, afterWrite, fedOf};
 use formatting::FormattingFlags;
+use lines::MAX_LINE;
+use lines::Reader;
+use lines::next_line;
+use lines::part;
 use sheet::Sheet;
 use sheet::answer_line;
 use sheet::end_sheet;
@@ -12,288 +27,336 @@ use sheet_line::Begin;
 use sheet_line::parse_begin;
 use utils::slice_up_to_len;
 
-// What is held between lines: the input's bytes from..to, the number of its next line, how many
-// bytes are printed and not yet written, the size of the buffer, both runs, and whether to go on.
-struct Held {
-    from: usize,
-    to: usize,
-    line: u64,
-    printed: usize,
-    size: usize,
-    sheet: Sheet,
-    going: bool,
+// The most bytes that a step prints: the last line of a sheet of 4,096 bytes.
+const MAX_PRINTED: usize = 8239;
+
+// A sheet between two lines: the number of the next, the size of the buffer, both runs, and whether
+// the run goes on.
+pub struct State {
+    pub line: u64,
+    pub size: usize,
+    pub sheet: Sheet,
+    pub going: bool,
 }
 
-// Nothing held.
-fn begun() -> Held {
-    Held {
-        from: 0,
-        to: 0,
-        line: 1,
-        printed: 0,
-        size: 0,
-        sheet: fresh(0, FormattingFlags::DEFAULT),
-        going: true,
-    }
+// What is held between steps: what is read of the input, where the sheet stands, how many bytes are
+// printed and not yet written, and whether more is awaited.
+pub struct Stream {
+    pub reader: Reader,
+    pub state: State,
+    pub printed: usize,
+    pub waits: bool,
 }
 
-// With more printed, and whether to go on.
-fn printed(h: Held, printed: usize, going: bool) -> Held {
+// The state after a line, and the end of what is printed.
+struct Told {
+    state: State,
+    at: usize,
+}
+
+// The run does not go on.
+fn stopped(h: State) -> State
+    ensures { λ r. ⌜ r ≡ stoppedOf h ⌝ }
+{
     let sheet = h.sheet;
-    Held {
-        from: h.from,
-        to: h.to,
+    State {
         line: h.line,
-        printed,
         size: h.size,
         sheet,
-        going,
+        going: false,
     }
 }
 
-// With other bytes of the input.
-fn moved(h: Held, from: usize, to: usize) -> Held {
-    let sheet = h.sheet;
-    Held {
-        from,
-        to,
-        line: h.line,
-        printed: h.printed,
-        size: h.size,
-        sheet,
-        going: h.going,
+// Zeros at the beginning.
+fn zero(buf: &mut [u8], n: usize)
+    requires { ⌜ n ≤ length (now buf) ⌝ }
+    ensures { λ _. ⌜ take n (now (buf .exit)) ≡ replicate n 0 ⌝ }
+{
+    let mut i = 0;
+    while i < n {
+        buf[i] = 0;
+        i += 1;
     }
 }
 
-// Writes what is printed.
-fn flush(h: Held, output: i32, out: &[u8]) -> Held {
-    let written = io::write_all(output, slice_up_to_len(out, h.printed));
-    printed(h, 0, h.going && written)
-}
-
-// Line 1 begins the runs.
-fn first_line(h: Held, l: &[u8], out: &mut [u8]) -> Held {
+// Line 1 begins the runs, over bytes that are zero.
+fn first_line(h: State, l: &[u8], buf: &mut [u8], out: &mut [u8], at: usize) -> Told
+    requires { ⌜ Sized h (now buf) × ((h .line ≡ 1) × (at + maxRow ≤ length (now out))) ⌝ }
+    ensures { λ r. ⌜ ((c w : List ℕ) → Answers first (stageOf (r .state) c w (now (buf .exit))) (now (l .entry)) (now (out .entry)) (now (out .exit)) at (r .at)) ⌝ }
+    ensures { λ r. ⌜ Onward h (r .state) ⌝ }
+{
     match parse_begin(l) {
         Begin::Bad => {
-            let w = put_bad(out, h.printed, 1);
-            printed(h, w.at, false)
+            let w = put_bad(out, at, 1);
+            Told {
+                state: stopped(h),
+                at: w.at,
+            }
         }
         Begin::BadCursor => {
-            let w = put_refused(out, h.printed);
-            printed(h, w.at, false)
+            let w = put_refused(out, at);
+            Told {
+                state: stopped(h),
+                at: w.at,
+            }
         }
-        Begin::Fresh(size, at, flags) => Held {
-            from: h.from,
-            to: h.to,
-            line: 2,
-            printed: h.printed,
-            size,
-            sheet: fresh(at, flags),
-            going: true,
-        },
-    }
-}
-
-// The number of the next line; it does not pass 2^64 - 1.
-fn next(line: u64) -> u64 {
-    if line == u64::MAX { line } else { line + 1 }
-}
-
-// A later line goes to both runs.
-fn later_line(
-    h: Held,
-    l: &[u8],
-    counted: &mut [u32; 64],
-    written: &mut [u32; 64],
-    buf: &mut [u8],
-    text: &mut [u8; 2048],
-    out: &mut [u8],
-) -> Held {
-    let size = h.size;
-    let line = h.line;
-    if buf.len() < size {
-        return printed(h, h.printed, false);
-    }
-    let before = h.sheet;
-    let bytes = &mut buf[0..size];
-    let a = answer_line(
-        line,
-        before,
-        counted,
-        written,
-        bytes,
-        l,
-        text,
-        out,
-        h.printed,
-    );
-    let sheet = a.sheet;
-    let print = a.print;
-    Held {
-        from: h.from,
-        to: h.to,
-        line: next(line),
-        printed: print.at,
-        size,
-        sheet,
-        going: a.is_call,
-    }
-}
-
-fn answer(
-    h: Held,
-    l: &[u8],
-    counted: &mut [u32; 64],
-    written: &mut [u32; 64],
-    buf: &mut [u8],
-    text: &mut [u8; 2048],
-    out: &mut [u8],
-) -> Held {
-    if h.line == 1 {
-        return first_line(h, l, out);
-    }
-    later_line(h, l, counted, written, buf, text, out)
-}
-
-// Moves the bytes from..to to the beginning.
-fn shift(space: &mut [u8], from: usize, to: usize) {
-    if from <= to {
-        if to <= space.len() {
-            let mut i = 0;
-            while i < to - from {
-                space[i] = space[from + i];
-                i += 1;
+        Begin::Fresh(size, cursor, flags) => {
+            zero(buf, size);
+            Told {
+                state: State {
+                    line: 2,
+                    size,
+                    sheet: fresh(cursor, flags),
+                    going: true,
+                },
+                at,
             }
         }
     }
 }
 
-// Reads once, after the n bytes that are held.
-fn read_after(input: i32, space: &mut [u8], n: usize) -> usize {
-    if space.len() < n {
-        return n;
-    }
-    let got = libc::read(input, &mut space[n..]);
-    n + io::count(got, &space[n..])
-}
-
-// The input has ended: the last line may lack its line feed, and a run that goes on prints `end`.
-fn finish(
-    h: Held,
+// A later line goes to both runs.
+fn later_line(
+    h: State,
     l: &[u8],
     counted: &mut [u32; 64],
     written: &mut [u32; 64],
     buf: &mut [u8],
     text: &mut [u8; 2048],
     out: &mut [u8],
-) -> Held {
-    if l.len() == 0 {
-        return end(h, buf, out);
+    at: usize,
+) -> Told
+    requires { ⌜ Sized h (now buf) × (at + maxRow ≤ length (now out)) ⌝ }
+    ensures { λ r. ⌜ Answers (later (h .line) (sheetOf (h .sheet) (now (counted .entry)) (now (written .entry)) (take (h .size) (now (buf .entry))))) (stageOf (r .state) (now (counted .exit)) (now (written .exit)) (now (buf .exit))) (now (l .entry)) (now (out .entry)) (now (out .exit)) at (r .at) ⌝ }
+    ensures { λ r. ⌜ Onward h (r .state) ⌝ }
+{
+    let line = h.line;
+    let size = h.size;
+    let before = h.sheet;
+    let a = answer_line(
+        line,
+        before,
+        counted,
+        written,
+        &mut buf[0..size],
+        l,
+        text,
+        out,
+        at,
+    );
+    let sheet = a.sheet;
+    let print = a.print;
+    Told {
+        state: State {
+            line: line + 1,
+            size,
+            sheet,
+            going: a.is_call,
+        },
+        at: print.at,
     }
-    let last = answer(h, l, counted, written, buf, text, out);
-    end(last, buf, out)
 }
 
-// Prints the last line, if a run has begun and goes on.
-fn end(h: Held, buf: &[u8], out: &mut [u8]) -> Held {
-    if !h.going {
-        return h;
-    }
-    if h.line == 1 {
-        return printed(h, h.printed, false);
-    }
-    let sheet = h.sheet;
-    let w = end_sheet(sheet, slice_up_to_len(buf, h.size), out, h.printed);
-    printed(h, w.at, false)
-}
-
-// One turn: a line is answered, or more is read. A line above 4,096 bytes is bad before its end is
-// read.
-fn turn(
-    h: Held,
-    input: i32,
-    output: i32,
-    space: &mut [u8],
+// Answers a line; a run that does not go on prints nothing.
+fn answer(
+    h: State,
+    l: &[u8],
     counted: &mut [u32; 64],
     written: &mut [u32; 64],
     buf: &mut [u8],
     text: &mut [u8; 2048],
     out: &mut [u8],
-) -> Held {
-    let from = h.from;
-    let to = h.to;
-    if to < from {
-        return printed(h, h.printed, false);
+    at: usize,
+) -> Told
+    requires { ⌜ Sized h (now buf) × (at + maxRow ≤ length (now out)) ⌝ }
+    ensures { λ r. ⌜ Answers (stageOf h (now (counted .entry)) (now (written .entry)) (now (buf .entry))) (stageOf (r .state) (now (counted .exit)) (now (written .exit)) (now (buf .exit))) (now (l .entry)) (now (out .entry)) (now (out .exit)) at (r .at) ⌝ }
+    ensures { λ r. ⌜ Onward h (r .state) ⌝ }
+{
+    let going = h.going;
+    if !going {
+        return Told { state: h, at };
     }
-    if space.len() < to {
-        return printed(h, h.printed, false);
+    if h.line == 1 {
+        return first_line(h, l, buf, out, at);
     }
-    let n = index_of(&space[from..to], b'\n');
-    if 4096 < n {
-        let w = put_bad(out, h.printed, h.line);
-        return printed(h, w.at, false);
+    later_line(h, l, counted, written, buf, text, out, at)
+}
+
+// Prints the last line, if a run has begun and goes on.
+fn end(h: State, buf: &[u8], out: &mut [u8], at: usize) -> usize
+    requires { ⌜ (h .size ≤ maxSize) × (at + maxEnd maxSize ≤ length (now out)) ⌝ }
+    ensures { λ r. ⌜ ((c w : List ℕ) → take r (now (out .exit)) ≡ take at (now (out .entry)) ++ left (stageOf h c w (now (buf .entry))) []) ⌝ }
+    ensures { λ r. ⌜ r ≤ at + maxEnd maxSize ⌝ }
+{
+    let going = h.going;
+    if !going {
+        return at;
     }
-    if n < to - from {
-        let past = from + n;
-        let rest = past + 1;
-        let a = answer(h, &space[from..past], counted, written, buf, text, out);
-        return moved(room(a, output, out), rest, to);
+    if h.line == 1 {
+        return at;
     }
-    let f = flush(h, output, out);
-    shift(space, from, to);
-    let more = read_after(input, space, n);
-    if more == n {
-        return finish(
-            f,
-            slice_up_to_len(space, n),
+    let sheet = h.sheet;
+    let w = end_sheet(sheet, slice_up_to_len(buf, h.size), out, at);
+    w.at
+}
+
+// Whether a step can be made.
+fn is_ready(h: Stream, buf: &[u8], out: &[u8]) -> bool
+    ensures { λ r. ⌜ (r ≡ true → Ready h (now (buf .entry)) (now (out .entry))) × (r ≡ false → Ready h (now (buf .entry)) (now (out .entry)) → ⊥) ⌝ }
+{
+    let state = h.state;
+    if state.line < 1 {
+        return false;
+    }
+    if state.line == u64::MAX {
+        return false;
+    }
+    if 4096 < state.size {
+        return false;
+    }
+    if buf.len() < 4096 {
+        return false;
+    }
+    if out.len() < h.printed {
+        return false;
+    }
+    if out.len() - h.printed < MAX_PRINTED {
+        return false;
+    }
+    true
+}
+
+// Nothing is read, and line 1 is next.
+pub fn start() -> Stream
+    ensures { λ r. ⌜ ((space c w b out : List ℕ) → atOf r space c w b out ≡ begins first) ⌝ }
+    ensures { λ r. ⌜ ((b out : List ℕ) → maxSize ≤ length b → maxEnd maxSize ≤ length out → Ready r b out) ⌝ }
+{
+    Stream {
+        reader: Reader::new(),
+        state: State {
+            line: 1,
+            size: 0,
+            sheet: fresh(0, FormattingFlags::DEFAULT),
+            going: true,
+        },
+        printed: 0,
+        waits: false,
+    }
+}
+
+// One step: a line is answered, or there is none and more is awaited, or the input has ended and the
+// last line is printed. What cannot be stepped from does not go on.
+pub fn step(
+    h: Stream,
+    space: &[u8],
+    counted: &mut [u32; 64],
+    written: &mut [u32; 64],
+    buf: &mut [u8],
+    text: &mut [u8; 2048],
+    out: &mut [u8],
+) -> Stream
+    ensures { λ r. ⌜ (Ready h (now (buf .entry)) (now (out .entry)) → Stepped h r (now (space .entry)) (now (counted .entry)) (now (written .entry)) (now (buf .entry)) (now (out .entry)) (now (counted .exit)) (now (written .exit)) (now (buf .exit)) (now (out .exit))) ⌝ }
+    ensures { λ r. ⌜ ((Ready h (now (buf .entry)) (now (out .entry)) → ⊥) → Halts h r (now (counted .entry)) (now (written .entry)) (now (buf .entry)) (now (out .entry)) (now (counted .exit)) (now (written .exit)) (now (buf .exit)) (now (out .exit))) ⌝ }
+{
+    let at = h.printed;
+    let before = h.reader;
+    let state = h.state;
+    if !is_ready(h, buf, out) {
+        return Stream {
+            reader: before,
+            state: stopped(state),
+            printed: at,
+            waits: false,
+        };
+    }
+    let taken = next_line(before, space, MAX_LINE);
+    let reader = taken.reader;
+    let is_line = taken.is_line;
+    if is_line {
+        let t = answer(
+            state,
+            part(space, taken.start, taken.end),
             counted,
             written,
             buf,
             text,
             out,
+            at,
         );
+        let after = t.state;
+        return Stream {
+            reader,
+            state: after,
+            printed: t.at,
+            waits: false,
+        };
     }
-    moved(f, 0, more)
+    let ended = before.ended;
+    if !ended {
+        return Stream {
+            reader,
+            state,
+            printed: at,
+            waits: true,
+        };
+    }
+    let last = end(state, buf, out, at);
+    Stream {
+        reader,
+        state: stopped(state),
+        printed: last,
+        waits: false,
+    }
 }
 
-// With room for a row and for the last line.
-fn room(h: Held, output: i32, out: &[u8]) -> Held {
-    if h.printed < 32768 {
-        return h;
+// Whether what is printed is to be written now: before more is awaited, at the end, and where there
+// is much of it.
+pub fn is_due(h: Stream) -> bool
+    ensures { λ r. ⌜ r ≡ isDue h ⌝ }
+{
+    let waits = h.waits;
+    if waits {
+        return true;
     }
-    flush(h, output, out)
+    let state = h.state;
+    let going = state.going;
+    if !going {
+        return true;
+    }
+    32768 <= h.printed
 }
 
-// Reads a sheet and answers it. Its memory is of fixed size, whatever the input's length.
-pub fn play_sheet(input: i32, output: i32) {
-    let mut input_bytes = [0u8; 65536];
-    let mut output_bytes = [0u8; 65536];
-    let mut run_bytes = [0u8; 4096];
-    let mut counted = [0u32; 64];
-    let mut written = [0u32; 64];
-    let mut text = [0u8; 2048];
-    let space: &mut [u8] = &mut input_bytes;
-    let out: &mut [u8] = &mut output_bytes;
-    let buf: &mut [u8] = &mut run_bytes;
-    let mut h = begun();
-    let mut turns = u64::MAX;
-    while turns > 0 {
-        turns -= 1;
-        h = turn(
-            h,
-            input,
-            output,
-            space,
-            &mut counted,
-            &mut written,
-            buf,
-            &mut text,
-            out,
-        );
-        let going = h.going;
-        if !going {
-            break;
-        }
+// After a write: nothing is left to be written; a run whose write failed does not go on.
+pub fn emptied(h: Stream, done: bool) -> Stream
+    ensures { λ r. ⌜ r ≡ afterWrite h done ⌝ }
+{
+    let reader = h.reader;
+    let state = h.state;
+    if done {
+        return Stream {
+            reader,
+            state,
+            printed: 0,
+            waits: h.waits,
+        };
     }
-    flush(h, output, out);
+    Stream {
+        reader,
+        state: stopped(state),
+        printed: 0,
+        waits: false,
+    }
+}
+
+// With more of the input.
+pub fn fed(h: Stream, reader: Reader) -> Stream
+    ensures { λ r. ⌜ r ≡ fedOf h reader ⌝ }
+{
+    let state = h.state;
+    Stream {
+        reader,
+        state,
+        printed: h.printed,
+        waits: false,
+    }
 }

@@ -4,10 +4,10 @@ use Rattle.sheet_tests.proofs.main.Statement.{statement}
 use Rattle.sheet_tests.proofs.main.Tie as tie
 
 abbrev Inv-loop : tie.InvT-loop
-Inv-loop i₀ i-end i = Unit {0}
+Inv-loop out₀ output₀ i₀ t11 i-end out output i = Unit {0}
 
 abbrev μ-loop : tie.MeasureT-loop
-μ-loop i₀ i-end i = i-end - i
+μ-loop out₀ output₀ i₀ t11 i-end out output i = i-end - i
 
 pub main-spec : {M : Type 1} → statement M
 main-spec =
@@ -15,8 +15,24 @@ main-spec =
     (tie.spec
     Inv-loop
     μ-loop
+    (λ c. search needs)
     (λ c κs. search needs)
     (λ c. search needs)
+    (λ c κs. search needs)
+    (λ c. search needs)
+    (λ c κs. search needs)
+    (λ c. search needs)
+    (λ c. search needs)
+    (λ c κs. search needs)
+    (λ c. search needs)
+    (λ c. search needs)
+    (λ c. search needs)
+    (λ c. search needs)
+    (λ c κs. search needs)
+    (λ c κs. search needs)
+    (λ c κs. search needs)
+    (λ c κs. search needs)
+    (λ c κs. search needs)
     (λ c κs. search needs)
     (λ c. search needs)
     (λ c. search needs)

@@ -1,6 +1,7 @@
 use mathlib.Core.Path.{ap, _∙_}
 use mathlib.Core.List.{List}
 use Prim.Native.Nat.{ℕ}
+use native.Mathlib.Omega.{arith}
 use borrow.Author.Needs.{needs}
 use Rattle.str_writer.specs.Write.{put}
 use Rattle.sheet.proofs.Printing.{laid-text}
@@ -8,7 +9,7 @@ use Rattle.sheet.proofs.print.put_bad.Statement.{statement}
 use Rattle.sheet.proofs.print.put_bad.Tie as tie
 
 returns : tie.Need-returns
-returns c = c .before .before .put .ensures ∙ ap (λ (t : List ℕ). put (c .before .before .before .before .before .before .before .before .before .before .args .out .now) (c .before .before .before .before .before .before .before .before .before .before .args .at) t) (laid-text _ _ _ _ (c .before .before .before .before .before .before .before .lay-bad .ensures .0) (c .before .before .before .before .before .before .before .lay-bad .ensures .1 .1))
+returns c = (c .before .before .put .ensures ∙ ap (λ (t : List ℕ). put (c .before .before .before .before .before .before .before .before .before .before .args .out .now) (c .before .before .before .before .before .before .before .before .before .before .args .at) t) (laid-text _ _ _ _ (c .before .before .before .before .before .before .before .lay-bad .ensures .0) (c .before .before .before .before .before .before .before .lay-bad .ensures .1 .1)), omega arith)
 
 pub put-bad-spec : {M : Type 1} → statement M
 put-bad-spec = tie.close (tie.spec (λ c. search needs) (λ c κs. search needs) (λ c. search needs) (λ c. search needs) (λ c. search needs) (λ c κs. search needs) (λ c. search needs) returns)

@@ -1,0 +1,64 @@
+-- A program that answers the lines of its input, as a list of steps, reads and writes; and what it writes in all, whatever the pieces. What a program prints for the lines that are left is its own, the parameter `left`; so is the limit of a line.
+use mathlib.Core.Bool.{Bool, true, false}
+use mathlib.Core.Path.{_≡_}
+use mathlib.Core.List.{List, [], _∷_, _++_}
+use Prim.Native.Nat.{ℕ, _<_}
+use lib.ListN.{length}
+use Rattle.lines.specs.Lines.{linesOf, clipped}
+use Rattle.lines.specs.declared.Reader.{Reader}
+use Rattle.lines.specs.Reading.{heldOf, ahead, MayFollow, Unended}
+
+-- where a program stands: its own stage, the bytes that are read and not yet answered, whether they begin inside a line that was too long, those that are printed and not yet written, and whether the input has ended
+pub record At (S : Type 0) : Type 0 where
+  pub stage : S
+  pub bytes : List ℕ
+  pub skips : Bool
+  pub pending : List ℕ
+  pub ended : Bool
+
+-- the same, of its stage, what the reader holds in the buffer b, and what is printed
+abbrev pub standing : {S : Type 0} → S → Reader → List ℕ → List ℕ → At S
+standing s r b pending = record { stage = s; bytes = heldOf r b; skips = r .skips; pending = pending; ended = r .ended }
+
+-- what is still to be written, if the input goes on with rest
+abbrev pub remains : {S : Type 0} → (S → List (List ℕ) → List ℕ) → ℕ → At S → List ℕ → List ℕ
+remains left limit a rest = a .pending ++ left (a .stage) (ahead limit (a .skips) (a .bytes ++ rest))
+
+-- a stage after which no line prints anything
+abbrev pub Over : {S : Type 0} → (S → List (List ℕ) → List ℕ) → S → Type 0
+Over left s = (ls : List (List ℕ)) → left s ls ≡ []
+
+-- a step that does not wait answers a line, so that fewer bytes are held, or is the last; one waits only where no line has ended and the input may go on
+pub data Onward {S : Type 0} (left : S → List (List ℕ) → List ℕ) (limit : ℕ) (a b : At S) : Bool → Type 0 where
+  answers : length (b .bytes) < length (a .bytes) → Onward left limit a b false
+  ends : Over left (b .stage) → Onward left limit a b false
+  awaits : Unended limit (b .bytes) → a .ended ≡ false → Onward left limit a b true
+
+-- a step, and whether it waits: what is still to be written stays what it was
+pub record Steps {S : Type 0} (left : S → List (List ℕ) → List ℕ) (limit : ℕ) (waits : Bool) (a b : At S) : Type 0 where
+  pub prints : (rest : List ℕ) → MayFollow (a .ended) rest → remains left limit b rest ≡ remains left limit a rest
+  pub ended : b .ended ≡ a .ended
+  pub onward : Onward left limit a b waits
+
+-- pieces one after another
+abbrev pub joined : List (List ℕ) → List ℕ
+joined [] = []
+joined (p ∷ ps) = p ++ joined ps
+
+-- from a on the program reads the pieces of the first list and writes those of the second; a read that gives nothing says that the input has ended; it stops where no line prints anything and all that is printed is written
+pub data Plays {S : Type 0} (left : S → List (List ℕ) → List ℕ) (limit : ℕ) : At S → List (List ℕ) → List (List ℕ) → Type 0 where
+  steps : {a b : At S} {ins outs : List (List ℕ)} (waits : Bool) → Steps left limit waits a b → Plays left limit b ins outs → Plays left limit a ins outs
+  reads : {s : S} {h : List ℕ} {k : Bool} {p : List ℕ} {e : Bool} {ins outs : List (List ℕ)} (piece : List ℕ) (end : Bool) → (end ≡ true → (piece ≡ []) × (ins ≡ []))
+      → Plays left limit (record { stage = s; bytes = h ++ piece; skips = k; pending = p; ended = end }) ins outs
+      → Plays left limit (record { stage = s; bytes = h; skips = k; pending = p; ended = e }) (piece ∷ ins) outs
+  writes : {s : S} {h : List ℕ} {k : Bool} {p : List ℕ} {e : Bool} {ins outs : List (List ℕ)} → Plays left limit (record { stage = s; bytes = h; skips = k; pending = []; ended = e }) ins outs
+      → Plays left limit (record { stage = s; bytes = h; skips = k; pending = p; ended = e }) ins (p ∷ outs)
+  stops : {s : S} {h : List ℕ} {k : Bool} {e : Bool} (ins : List (List ℕ)) → Over left s → Plays left limit (record { stage = s; bytes = h; skips = k; pending = []; ended = e }) ins []
+
+-- a program begins with nothing read and nothing printed
+abbrev pub begins : {S : Type 0} → S → At S
+begins s = record { stage = s; bytes = []; skips = false; pending = []; ended = false }
+
+-- whatever pieces the input comes in, and whenever what is printed is written: the pieces written, joined, are what the lines of the pieces read, joined, print (proved in proofs/Playing)
+abbrev pub PlaysRight : {S : Type 0} → (S → List (List ℕ) → List ℕ) → ℕ → S → Type 0
+PlaysRight left limit s = (ins outs : List (List ℕ)) → Plays left limit (begins s) ins outs → joined outs ≡ left s (clipped limit (linesOf (joined ins)))
