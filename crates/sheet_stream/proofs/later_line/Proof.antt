@@ -7,9 +7,11 @@ use Rattle.sheet_stream.proofs.later_line.Tie as tie
 
 returns : tie.Need-returns
 returns c =
-    let a = c .before .before .before .before .before .before .before .before .before .before .before .before .before .before .before .before .args in
-    let p = c .before .before .before .before .before .before .before .before .before .before .before .before .before .before .before .before .pre in
-    let e = c .before .before .before .before .before .before .answer-line in (
+    let at-answer-line = c .before .before .before .before .before .before in
+    let at-args = at-answer-line .before .before .before .before .before .before .before .before .before .before in
+    let a = at-args .args in
+    let p = at-args .pre in
+    let e = at-answer-line .answer-line in (
       answers-later (a .h .line) (a .h .size) (a .h .sheet) (a .counted .now) (a .written .now) (a .buf .now) _ _ _ (e .result) (a .l .now) (a .out .now) _ (a .at) (e .ensures .0) (e .ensures .1 .0) (e .kept .1 .1 .1 .1 .0 ∙ part-length (a .h .size) (a .buf .now) (omega (arith, p .0 .size, p .0 .lends))) (p .0 .starts) (p .1),
       record { size = p .0 .size; starts = omega arith; counts = omega arith },
     )
