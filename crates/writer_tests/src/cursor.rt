@@ -1,81 +1,59 @@
-// A cursor given, and truncations. Each line shows the bytes of the buffer and the cursor, then the
-// answer and the cursor after it: of a truncation, those of truncate and of truncate_utf8. A cursor
-// given has the room that is left and the text too.
-use crate::print::hex;
-use crate::print::number;
-use crate::print::written;
-use test_print::text;
+// A cursor given, and truncations. They write nothing: the line gives the bytes of the buffer.
+use crate::print::put_bytes;
+use crate::print::put_cell;
+use crate::print::put_outcome;
+use fields::HexBytes;
+use fields::Number;
+use fields::first_field;
+use fields::from_hex;
+use fields::later_fields;
+use fields::number;
+use utils::slice_up_to_len;
 
-fn given_at(at: usize) {
-    let buf = b"\x00ab";
-    hex(b"from_custom ", buf);
-    number(b" at ", at);
-    written(str_writer::from_custom(buf, at));
-    number(b", left ", str_writer::remaining_capacity(buf, at));
-    hex(b" [", str_writer::as_bytes(buf, at));
-    text(b"]\n");
+// Lays what a given cursor answers, the room that is left and the text.
+fn given(buf: &[u8], at: usize, out: &mut [u8], end: usize) -> usize {
+    let end = put_outcome(out, end, b"", str_writer::from_custom(buf, at), b',');
+    let end = put_cell(
+        out,
+        end,
+        b" left ",
+        str_writer::remaining_capacity(buf, at),
+        b' ',
+    );
+    put_bytes(out, end, str_writer::as_bytes(buf, at))
 }
 
-// The cursor at the start, inside, at the end, one past it and far past it.
-pub(crate) fn given() {
-    given_at(0);
-    given_at(1);
-    given_at(3);
-    given_at(4);
-    given_at(18446744073709551615);
+// Lays what truncate and truncate_utf8 answer.
+fn truncated(buf: &[u8], at: usize, length: usize, out: &mut [u8], end: usize) -> usize {
+    let end = put_outcome(out, end, b"", str_writer::truncate(buf, at, length), b',');
+    put_outcome(
+        out,
+        end,
+        b" utf8: ",
+        str_writer::truncate_utf8(buf, at, length),
+        b'\n',
+    )
 }
 
-fn truncated_to(buf: &[u8], at: usize, length: usize) {
-    hex(b"truncate ", buf);
-    number(b" at ", at);
-    number(b" to ", length);
-    written(str_writer::truncate(buf, at, length));
-    text(b", utf8");
-    written(str_writer::truncate_utf8(buf, at, length));
-    text(b"\n");
-}
-
-// Lengths below, at and above the cursor, at the end of the buffer, and a cursor past it.
-pub(crate) fn truncated() {
-    of_ascii(3, 0);
-    of_ascii(3, 2);
-    of_ascii(3, 3);
-    of_ascii(3, 4);
-    of_ascii(4, 4);
-    of_ascii(4, 18446744073709551615);
-    of_ascii(5, 4);
-    of_ascii(18446744073709551615, 0);
-}
-
-fn of_ascii(at: usize, length: usize) {
-    truncated_to(b"abcd", at, length);
-}
-
-// Before, in and after a character, and a cursor inside it.
-pub(crate) fn truncated_inside() {
-    of_three_octets(5, 1);
-    of_three_octets(5, 2);
-    of_three_octets(5, 3);
-    of_three_octets(5, 4);
-    of_three_octets(2, 2);
-    of_three_octets(2, 3);
-    of_three_octets(9, 2);
-}
-
-fn of_three_octets(at: usize, length: usize) {
-    truncated_to(b"a\xE2\x89\xA2b", at, length);
-}
-
-// A byte past the text that continues a character: 3 at the cursor itself, for UTF-8 only. Then the
-// bytes at the edges of those that continue a character.
-pub(crate) fn stale() {
-    truncated_to(b"a\xA9", 1, 1);
-    of_edges(4, 1);
-    of_edges(4, 2);
-    of_edges(4, 3);
-    of_edges(4, 4);
-}
-
-fn of_edges(at: usize, length: usize) {
-    truncated_to(b"a\x7F\x80\xBF\xC0", at, length);
+// `from_custom,HEX,AT` where k is 0, or `truncate,HEX,AT,LENGTH`; 0 for another form.
+pub(crate) fn cursor_call(k: usize, rest: &[u8], out: &mut [u8], end: usize) -> usize {
+    let mut space = [0u8; 72];
+    let HexBytes::Are(n) = from_hex(first_field(rest), &mut space) else {
+        return 0;
+    };
+    let buf = slice_up_to_len(&space, n);
+    let later = later_fields(rest);
+    if k == 0 {
+        let Number::Is(at) = number(later, u64::MAX) else {
+            return 0;
+        };
+        return given(buf, at as usize, out, end);
+    }
+    let Number::Is(at) = number(first_field(later), u64::MAX) else {
+        return 0;
+    };
+    let Number::Is(length) = number(later_fields(later), u64::MAX) else {
+        return 0;
+    };
+    truncated(buf, at as usize, length as usize, out, end)
 }

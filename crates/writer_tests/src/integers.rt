@@ -1,12 +1,19 @@
-// Integers: the display form, and the debug form by the flags. A value is given with its decimal
-// text.
-use crate::print::number;
-use crate::print::outcome;
-use crate::print::place;
+// Writes of integers. The place k of a name is that of its type among u8, u16, u32, u64, i8, i16,
+// i32 and i64.
+use crate::texts::Played;
+use crate::words::place_of;
+use fields::Number;
+use fields::first_field;
+use fields::later_fields;
+use fields::number;
+use fields::same;
 use formatting::FormattingFlags;
+use formatting::flags_of;
+use lines::part;
 use str_writer::Written;
-use test_print::text;
+use utils::slice_up_to_len;
 
+// A value of its type.
 pub enum Integer {
     U8(u8),
     U16(u16),
@@ -18,6 +25,13 @@ pub enum Integer {
     I64(i64),
 }
 
+// A field as a value, or a field of another form.
+pub enum Value {
+    Is(Integer),
+    Other,
+}
+
+// The display form.
 fn display(x: Integer, buf: &mut [u8], at: usize) -> Written {
     match x {
         Integer::U8(x) => integer_writes::write_u8_display(buf, at, x),
@@ -31,6 +45,7 @@ fn display(x: Integer, buf: &mut [u8], at: usize) -> Written {
     }
 }
 
+// The debug form by the flags.
 fn debug(x: Integer, flags: FormattingFlags, buf: &mut [u8], at: usize) -> Written {
     match x {
         Integer::U8(x) => integer_writes::write_u8_debug(buf, at, x, flags),
@@ -44,145 +59,94 @@ fn debug(x: Integer, flags: FormattingFlags, buf: &mut [u8], at: usize) -> Writt
     }
 }
 
-// The display form, or the debug form by flags.
-pub enum Form {
-    Display,
-    DecimalAlternate,
-    Upper,
-    LowerAlternate,
-    BinaryAlternate,
-}
-
-fn flags(form: Form) -> FormattingFlags {
-    let alternate = FormattingFlags::new().set_alternate(true);
-    match form {
-        Form::Display | Form::DecimalAlternate => alternate,
-        Form::Upper => FormattingFlags::new().set_hexadecimal(),
-        Form::LowerAlternate => alternate.set_lower_hexadecimal(),
-        Form::BinaryAlternate => alternate.set_binary(),
+// n as a value of an unsigned type that has it: each remainder is n.
+fn unsigned(k: usize, n: u64) -> Integer {
+    if k == 0 {
+        return Integer::U8((n % 256) as u8);
     }
-}
-
-fn play(x: Integer, form: Form, buf: &mut [u8], at: usize) -> Written {
-    match form {
-        Form::Display => display(x, buf, at),
-        _ => debug(x, flags(form), buf, at),
+    if k == 1 {
+        return Integer::U16((n % 65536) as u16);
     }
-}
-
-fn bits(x: Integer) -> usize {
-    match x {
-        Integer::U8(_) | Integer::I8(_) => 8,
-        Integer::U16(_) | Integer::I16(_) => 16,
-        Integer::U32(_) | Integer::I32(_) => 32,
-        Integer::U64(_) | Integer::I64(_) => 64,
+    if k == 2 {
+        return Integer::U32((n % 4294967296) as u32);
     }
+    Integer::U64(n)
 }
 
-fn named(x: Integer) {
-    match x {
-        Integer::U8(_) | Integer::U16(_) | Integer::U32(_) | Integer::U64(_) => {
-            number(b"write_u", bits(x))
+// n as a value of a signed type that has it: each remainder is n.
+fn positive(k: usize, n: u64) -> Integer {
+    if k == 4 {
+        return Integer::I8((n % 128) as i8);
+    }
+    if k == 5 {
+        return Integer::I16((n % 32768) as i16);
+    }
+    if k == 6 {
+        return Integer::I32((n % 2147483648) as i32);
+    }
+    Integer::I64((n % 9223372036854775808) as i64)
+}
+
+// -1 - n as a value of a signed type that has it: each remainder is n.
+fn negative(k: usize, n: u64) -> Integer {
+    if k == 4 {
+        return Integer::I8(!((n % 128) as i8));
+    }
+    if k == 5 {
+        return Integer::I16(!((n % 32768) as i16));
+    }
+    if k == 6 {
+        return Integer::I32(!((n % 2147483648) as i32));
+    }
+    Integer::I64(!((n % 9223372036854775808) as i64))
+}
+
+// The value that a field is in decimal, if the type has it.
+fn value_of(k: usize, s: &[u8]) -> Value {
+    let greatest = [255, 65535, 4294967295, u64::MAX];
+    let most = greatest[k % 4];
+    if k < 4 {
+        return match number(s, most) {
+            Number::Is(n) => Value::Is(unsigned(k, n)),
+            Number::Other => Value::Other,
+        };
+    }
+    if same(slice_up_to_len(s, 1), b"-") {
+        let Number::Is(n) = number(part(s, 1, s.len()), most - most / 2) else {
+            return Value::Other;
+        };
+        if n == 0 {
+            return Value::Other;
         }
-        Integer::I8(_) | Integer::I16(_) | Integer::I32(_) | Integer::I64(_) => {
-            number(b"write_i", bits(x))
-        }
+        return Value::Is(negative(k, n - 1));
+    }
+    match number(s, most / 2) {
+        Number::Is(n) => Value::Is(positive(k, n)),
+        Number::Other => Value::Other,
     }
 }
 
-fn of_debug(value: &[u8], flags: &[u8]) {
-    text(b"_debug ");
-    text(value);
-    text(flags);
+// `VALUE`.
+pub(crate) fn display_call(k: usize, arguments: &[u8], buf: &mut [u8], at: usize) -> Played {
+    let Value::Is(x) = value_of(k, arguments) else {
+        return Played::Other;
+    };
+    Played::Gave(display(x, buf, at))
 }
 
-fn formed(value: &[u8], form: Form) {
-    match form {
-        Form::Display => {
-            text(b"_display ");
-            text(value)
-        }
-        Form::DecimalAlternate => of_debug(value, b" dec upper alt"),
-        Form::Upper => of_debug(value, b" hex upper plain"),
-        Form::LowerAlternate => of_debug(value, b" hex lower alt"),
-        Form::BinaryAlternate => of_debug(value, b" bin upper alt"),
-    }
-}
-
-fn shown(x: Integer, value: &[u8], form: Form, buf: &mut [u8], at: usize) {
-    named(x);
-    formed(value, form);
-    place(buf.len(), at);
-    outcome(play(x, form, buf, at), buf);
-}
-
-fn line(x: Integer, value: &[u8], form: Form, n: usize, at: usize) {
-    let mut space = [b'.'; 72];
-    if n <= 72 {
-        shown(x, value, form, &mut space[0..n], at);
-    }
-}
-
-// A text of len bytes: one byte short, exact and one byte long, with the cursor at 0 and at 3; then
-// with the cursor far past the end of the buffer, past it and at it.
-fn around(x: Integer, value: &[u8], form: Form, len: usize) {
-    if len == 0 {
-        return;
-    }
-    if 66 < len {
-        return;
-    }
-    line(x, value, form, len - 1, 0);
-    line(x, value, form, len, 0);
-    line(x, value, form, len + 1, 0);
-    line(x, value, form, len + 2, 3);
-    line(x, value, form, len + 3, 3);
-    line(x, value, form, len + 4, 3);
-    line(x, value, form, 2, 18446744073709551615);
-    line(x, value, form, 2, 3);
-    if 1 < len {
-        line(x, value, form, 3, 3);
-    }
-}
-
-// All forms of x, of which value is the decimal text, and hexadecimal and binary the numbers of
-// digits.
-fn case(x: Integer, value: &[u8], hexadecimal: u8, binary: u8) {
-    around(x, value, Form::Display, value.len());
-    around(x, value, Form::DecimalAlternate, value.len());
-    around(x, value, Form::Upper, hexadecimal as usize);
-    around(x, value, Form::LowerAlternate, hexadecimal as usize + 2);
-    around(x, value, Form::BinaryAlternate, binary as usize + 2);
-}
-
-pub(crate) fn unsigned() {
-    case(Integer::U8(0), b"0", 1, 1);
-    case(Integer::U8(255), b"255", 2, 8);
-    case(Integer::U16(65535), b"65535", 4, 16);
-    case(Integer::U32(4294967295), b"4294967295", 8, 32);
-    case(
-        Integer::U64(18446744073709551615),
-        b"18446744073709551615",
-        16,
-        64,
+// `VALUE,dec|hex|bin,upper|lower,plain|alt`.
+pub(crate) fn debug_call(k: usize, arguments: &[u8], buf: &mut [u8], at: usize) -> Played {
+    let Value::Is(x) = value_of(k, first_field(arguments)) else {
+        return Played::Other;
+    };
+    let n = place_of(
+        later_fields(arguments),
+        b"dec,upper,plain dec,upper,alt dec,lower,plain dec,lower,alt \
+        hex,upper,plain hex,upper,alt hex,lower,plain hex,lower,alt \
+        bin,upper,plain bin,upper,alt bin,lower,plain bin,lower,alt",
     );
-}
-
-pub(crate) fn signed() {
-    case(Integer::I8(-128), b"-128", 2, 8);
-    case(Integer::I8(-1), b"-1", 2, 8);
-    case(Integer::I16(-32768), b"-32768", 4, 16);
-    case(Integer::I32(-2147483648), b"-2147483648", 8, 32);
-    case(
-        Integer::I64(-9223372036854775808),
-        b"-9223372036854775808",
-        16,
-        64,
-    );
-    case(
-        Integer::I64(9223372036854775807),
-        b"9223372036854775807",
-        16,
-        63,
-    );
+    if 11 < n {
+        return Played::Other;
+    }
+    Played::Gave(debug(x, flags_of(n as u64), buf, at))
 }

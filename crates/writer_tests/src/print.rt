@@ -1,35 +1,40 @@
-// What the cases print with.
+// What the cases are printed with: each function lays its text into `out` from `at` on, and gives
+// the end of it.
+use fields::put_hex;
+use fields::put_number;
 use str_writer::Written;
-use test_print::text;
+use str_writer::put;
 
-// A number after a text.
-pub(crate) fn number(before: &[u8], n: usize) {
-    text(before);
-    test_print::number(n as u64);
+// A number after a text, and a byte after it.
+pub(crate) fn put_cell(out: &mut [u8], at: usize, before: &[u8], n: usize, after: u8) -> usize {
+    let w = put(out, at, before);
+    let w = put_number(out, w.at, n as u64, after);
+    w.at
 }
 
-// Each byte as two upper hexadecimal digits, after a text.
-pub(crate) fn hex(before: &[u8], s: &[u8]) {
-    text(before);
-    test_print::hex(s);
+// The number of an answer and the cursor, after a text, and a byte after them.
+pub(crate) fn put_outcome(
+    out: &mut [u8],
+    at: usize,
+    before: &[u8],
+    outcome: Written,
+    after: u8,
+) -> usize {
+    let answer = outcome.answer;
+    let end = put_cell(out, at, before, answer.number() as usize, b' ');
+    put_cell(out, end, b"", outcome.at, after)
 }
 
-// The number of the answer, and the cursor.
-pub(crate) fn written(w: Written) {
-    let answer = w.answer;
-    number(b": ", answer.number() as usize);
-    number(b" ", w.at);
+// Bytes in brackets, and the end of the line.
+pub(crate) fn put_bytes(out: &mut [u8], at: usize, bytes: &[u8]) -> usize {
+    let w = put(out, at, b"[");
+    let w = put_hex(out, w.at, bytes);
+    let w = put(out, w.at, b"]\n");
+    w.at
 }
 
-// The buffer's length and the cursor.
-pub(crate) fn place(n: usize, at: usize) {
-    number(b", ", n);
-    number(b" at ", at);
-}
-
-// What a write answers and the bytes that it leaves, and the end of the line.
-pub(crate) fn outcome(w: Written, buf: &[u8]) {
-    written(w);
-    hex(b" [", buf);
-    text(b"]\n");
+// What a write gave: the answer, the cursor and the bytes of the buffer.
+pub(crate) fn put_result(out: &mut [u8], at: usize, outcome: Written, buf: &[u8]) -> usize {
+    let end = put_outcome(out, at, b"", outcome, b' ');
+    put_bytes(out, end, buf)
 }

@@ -1,112 +1,130 @@
-// Writes that are done where they fit, bare and quoted. The two numbers at the end of a case are the
-// lengths of the bare and of the quoted text.
-use crate::call::Call;
-use crate::sizes::around;
-use crate::sizes::every;
-use crate::sizes::line;
+// Writes of text: strings, ASCII text, characters, a repeated byte. k is the place of the name among
+// those with the same arguments.
+use crate::print::put_cell;
+use crate::print::put_result;
+use fields::HexBytes;
+use fields::Number;
+use fields::first_field;
+use fields::from_hex;
+use fields::later_fields;
+use fields::number;
+use str_writer::Written;
+use str_writer_mut::write_str_then_debug;
+use utils::Range;
+use utils::slice_up_to_len;
 
-fn string(s: &[u8], bare: u8, quoted: u8) {
-    around(Call::Str, s, bare);
-    every(Call::StrDebug, s, quoted);
+// What a write gave, or arguments of another form.
+pub enum Played {
+    Gave(Written),
+    Other,
 }
 
-fn range(start: usize, end: usize, bare: u8, quoted: u8) {
-    let s = b"a\xE2\x89\xA2\tb'";
-    around(Call::StrRange(start, end), s, bare);
-    every(Call::StrRangeDebug(start, end), s, quoted);
+// write_str, write_str_debug, write_ascii, write_ascii_debug.
+fn whole(k: usize, s: &[u8], buf: &mut [u8], at: usize) -> Written {
+    if k == 0 {
+        return str_writer::write_str(buf, at, s);
+    }
+    if k == 1 {
+        return quoted_writes::write_str_debug(buf, at, s);
+    }
+    if k == 2 {
+        return str_writer::write_ascii(buf, at, s);
+    }
+    quoted_writes::write_ascii_debug(buf, at, s)
 }
 
-fn ascii(s: &[u8], bare: u8, quoted: u8) {
-    around(Call::Ascii, s, bare);
-    every(Call::AsciiDebug, s, quoted);
+// The same four with a range.
+fn ranged(k: usize, s: &[u8], range: Range, buf: &mut [u8], at: usize) -> Written {
+    if k == 0 {
+        return str_writer::write_str_range(buf, at, s, range);
+    }
+    if k == 1 {
+        return quoted_writes::write_str_range_debug(buf, at, s, range);
+    }
+    if k == 2 {
+        return str_writer::write_ascii_range(buf, at, s, range);
+    }
+    quoted_writes::write_ascii_range_debug(buf, at, s, range)
 }
 
-fn ascii_range(start: usize, end: usize, bare: u8, quoted: u8) {
-    let s = b"a\"b\x03c";
-    around(Call::AsciiRange(start, end), s, bare);
-    every(Call::AsciiRangeDebug(start, end), s, quoted);
+// `HEX`.
+pub(crate) fn text_call(k: usize, arguments: &[u8], buf: &mut [u8], at: usize) -> Played {
+    let mut space = [0u8; 72];
+    let HexBytes::Are(n) = from_hex(arguments, &mut space) else {
+        return Played::Other;
+    };
+    Played::Gave(whole(k, slice_up_to_len(&space, n), buf, at))
 }
 
-fn char(c: u32, bare: u8, quoted: u8) {
-    around(Call::Char(c), b"", bare);
-    around(Call::CharDebug(c), b"", quoted);
+// `HEX,START,END`.
+pub(crate) fn range_call(k: usize, arguments: &[u8], buf: &mut [u8], at: usize) -> Played {
+    let mut space = [0u8; 72];
+    let HexBytes::Are(n) = from_hex(first_field(arguments), &mut space) else {
+        return Played::Other;
+    };
+    let later = later_fields(arguments);
+    let Number::Is(start) = number(first_field(later), u64::MAX) else {
+        return Played::Other;
+    };
+    let Number::Is(end) = number(later_fields(later), u64::MAX) else {
+        return Played::Other;
+    };
+    let range = Range {
+        start: start as usize,
+        end: end as usize,
+    };
+    Played::Gave(ranged(k, slice_up_to_len(&space, n), range, buf, at))
 }
 
-// One escape, of two and of four bytes, at the start, in the middle and at the end.
-pub(crate) fn one_escape() {
-    string(b"\nab", 3, 6);
-    string(b"a\"b", 3, 6);
-    string(b"ab\\", 3, 6);
-    string(b"\x01ab", 3, 8);
-    string(b"a\x1Fb", 3, 8);
-    string(b"ab\x00", 3, 8);
+// `CODE`.
+pub(crate) fn char_call(k: usize, arguments: &[u8], buf: &mut [u8], at: usize) -> Played {
+    let Number::Is(c) = number(arguments, u64::MAX) else {
+        return Played::Other;
+    };
+    if 4294967295 < c {
+        return Played::Other;
+    }
+    if k == 0 {
+        return Played::Gave(str_writer::write_char(buf, at, c as u32));
+    }
+    Played::Gave(str_writer::write_char_debug(buf, at, c as u32))
 }
 
-// All six letters, escapes of both lengths in turn, characters of several octets, no escape, no
-// text.
-pub(crate) fn strings() {
-    string(b"\t\n\r\\'\"", 6, 14);
-    string(b"\x07'\x0B\t", 4, 14);
-    string(b"\xC3\xA9'\xE2\x89\xA2\xF0\x9D\x84\x9E", 10, 13);
-    string(b" ~\x7F", 3, 5);
-    string(b"", 0, 2);
+// `BYTE,COUNT`.
+pub(crate) fn repeated_call(arguments: &[u8], buf: &mut [u8], at: usize) -> Played {
+    let Number::Is(c) = number(first_field(arguments), u64::MAX) else {
+        return Played::Other;
+    };
+    let Number::Is(n) = number(later_fields(arguments), u64::MAX) else {
+        return Played::Other;
+    };
+    if 255 < c {
+        return Played::Other;
+    }
+    Played::Gave(str_writer::write_ascii_repeated(buf, at, c as u8, n as usize))
 }
 
-pub(crate) fn ascii_texts() {
-    ascii(b"'ab", 3, 6);
-    ascii(b"a\x7F\x02b", 4, 9);
-    ascii(b"ab\r", 3, 6);
-    ascii(b"", 0, 2);
-}
-
-// Whole, inside, clamped at the end, clamped at the start.
-pub(crate) fn ranges() {
-    range(0, 7, 7, 11);
-    range(1, 5, 4, 7);
-    range(5, 18446744073709551615, 2, 5);
-    range(5, 1, 0, 2);
-    ascii_range(0, 5, 5, 11);
-    ascii_range(1, 4, 3, 9);
-    ascii_range(3, 9, 2, 7);
-    ascii_range(18446744073709551615, 2, 0, 2);
-}
-
-// A quoted character that does not fit leaves nothing.
-pub(crate) fn chars_of_one_octet() {
-    char(0, 1, 6);
-    char(0x0A, 1, 4);
-    char(0x1F, 1, 6);
-    char(0x27, 1, 4);
-    char(0x41, 1, 3);
-    char(0x7F, 1, 3);
-}
-
-pub(crate) fn chars_of_several_octets() {
-    char(0x80, 2, 4);
-    char(0x7FF, 2, 4);
-    char(0x800, 3, 5);
-    char(0xFFFF, 3, 5);
-    char(0x10000, 4, 6);
-    char(0x10FFFF, 4, 6);
-}
-
-fn repeated(c: u8, len: u8) {
-    around(Call::AsciiRepeated(c, len as usize), b"", len);
-}
-
-// The top bit is dropped.
-pub(crate) fn repeats() {
-    repeated(0x2D, 0);
-    repeated(0x2D, 1);
-    repeated(0x20, 8);
-    repeated(0xC1, 3);
-    endless(8, 0);
-    endless(8, 3);
-    endless(3, 3);
-    endless(2, 3);
-}
-
-// The greatest count, which a cursor takes past 2^64 - 1.
-fn endless(n: usize, at: usize) {
-    line(Call::AsciiRepeated(0x2D, 18446744073709551615), b"", n, at);
+// `HEX,HEX`: a string and after it a quoted string through the lent writer. Lays both answers, the
+// cursor and the bytes of the buffer; 0 for a line of another form.
+pub(crate) fn twice_call(
+    arguments: &[u8],
+    buf: &mut [u8],
+    at: usize,
+    out: &mut [u8],
+    end: usize,
+) -> usize {
+    let mut first_space = [0u8; 72];
+    let mut second_space = [0u8; 72];
+    let HexBytes::Are(n) = from_hex(first_field(arguments), &mut first_space) else {
+        return 0;
+    };
+    let HexBytes::Are(m) = from_hex(later_fields(arguments), &mut second_space) else {
+        return 0;
+    };
+    let s = slice_up_to_len(&first_space, n);
+    let w = write_str_then_debug(buf, at, s, slice_up_to_len(&second_space, m));
+    let first = w.first;
+    let answer = w.second;
+    let end = put_cell(out, end, b"", first.number() as usize, b' ');
+    put_result(out, end, Written { at: w.at, answer }, buf)
 }
