@@ -14,4 +14,5 @@ pub use reading::Number;
 pub use words::first_field;
 pub use words::index_of;
 pub use words::later_fields;
+pub use words::place_of;
 pub use words::same;

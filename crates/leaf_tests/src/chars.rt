@@ -1,101 +1,62 @@
-// Characters: the answer, the octets, the display and the quoted form with their unused bytes, and
-// the two lengths.
-use test_print::hex;
-use test_print::number;
-use test_print::text;
+// Characters.
+use crate::put_pairs;
+use crate::put_template;
+use char_encoding::char_debug_len;
+use char_encoding::char_display_len;
+use char_encoding::char_to_debug;
+use char_encoding::char_to_display;
+use char_encoding::char_to_utf8;
+use fields::Number;
+use fields::number;
 
-fn length(n: usize) {
-    text(b",");
-    number(n as u64);
-    text(b" ");
+// The bytes of an array, and how many of them are used.
+fn put_four(s: &[u8; 4], len: usize, out: &mut [u8; 8192], at: usize) -> usize {
+    let at = put_pairs(out, at, s);
+    put_template(out, at, b",% ", len as u64, 0)
 }
 
-fn octets(c: u32) {
-    let made = char_encoding::char_to_utf8(c);
+// The same for a longer array.
+fn put_six(s: &[u8; 6], len: usize, out: &mut [u8; 8192], at: usize) -> usize {
+    let at = put_pairs(out, at, s);
+    put_template(out, at, b",% ", len as u64, 0)
+}
+
+// The answer and the octets.
+fn put_octets(c: u32, out: &mut [u8; 8192], at: usize) -> usize {
+    let made = char_to_utf8(c);
     let answer = made.answer;
     let bytes = made.bytes;
-    number(answer.number() as u64);
-    text(b" ");
-    four(&bytes);
-    length(made.len);
+    let at = put_template(out, at, b"%: % ", c as u64, answer.number() as u64);
+    put_four(&bytes, made.len, out, at)
 }
 
-fn display(c: u32) {
-    let made = char_encoding::char_to_display(c);
-    let bytes = made.encoded;
-    six(&bytes);
-    length(made.len);
+// The display form.
+fn put_display(c: u32, out: &mut [u8; 8192], at: usize) -> usize {
+    let made = char_to_display(c);
+    let encoded = made.encoded;
+    put_six(&encoded, made.len, out, at)
 }
 
-fn debug(c: u32) {
-    let made = char_encoding::char_to_debug(c);
-    let bytes = made.encoded;
-    six(&bytes);
-    length(made.len);
+// The quoted form.
+fn put_debug(c: u32, out: &mut [u8; 8192], at: usize) -> usize {
+    let made = char_to_debug(c);
+    let encoded = made.encoded;
+    put_six(&encoded, made.len, out, at)
 }
 
-fn four(s: &[u8; 4]) {
-    hex(s);
-}
-
-fn six(s: &[u8; 6]) {
-    hex(s);
-}
-
-fn case(c: u32) {
-    text(b"char ");
-    number(c as u64);
-    text(b": ");
-    octets(c);
-    display(c);
-    debug(c);
-    number(char_encoding::char_display_len(c).len as u64);
-    text(b",");
-    number(char_encoding::char_debug_len(c).len as u64);
-    text(b"\n");
-}
-
-// The edges of each length.
-pub(crate) fn edges() {
-    case(0);
-    case(0x41);
-    case(0x7E);
-    case(0x7F);
-    case(0x80);
-    case(0x7FF);
-    case(0x800);
-    case(0xD7FF);
-    case(0xE000);
-    case(0xFFFF);
-    case(0x10000);
-    case(0x10FFFF);
-}
-
-// The six letters, the codes below 32 around them, and their neighbours.
-pub(crate) fn escapes() {
-    case(1);
-    case(8);
-    case(9);
-    case(10);
-    case(11);
-    case(13);
-    case(31);
-    case(32);
-    case(33);
-    case(34);
-    case(39);
-    case(91);
-    case(92);
-    case(93);
-    case(128);
-}
-
-// What is no character.
-pub(crate) fn refused() {
-    case(0xD800);
-    case(0xDBFF);
-    case(0xDC00);
-    case(0xDFFF);
-    case(0x110000);
-    case(0xFFFFFFFF);
+// `char,CODE`: the octets, the display and the quoted form, and the lengths of these two.
+pub(crate) fn put_char(code: &[u8], out: &mut [u8; 8192], at: usize) -> usize {
+    let Number::Is(n) = number(code, u64::MAX) else {
+        return 0;
+    };
+    if 4294967295 < n {
+        return 0;
+    }
+    let c = n as u32;
+    let display_len = char_display_len(c).len as u64;
+    let debug_len = char_debug_len(c).len as u64;
+    let at = put_octets(c, out, at);
+    let at = put_display(c, out, at);
+    let at = put_debug(c, out, at);
+    put_template(out, at, b"%,%\n", display_len, debug_len)
 }

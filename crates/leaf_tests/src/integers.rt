@@ -1,363 +1,278 @@
 // Integers: the length and the text of the display form, and of the debug form by the flags.
+use crate::put_bytes;
+use crate::put_template;
+use fields::Number;
+use fields::first_field;
+use fields::later_fields;
+use fields::number;
+use fields::place_of;
 use formatting::FormattingFlags;
-use formatting::NumberFormatting;
+use lines::part;
 use pargument::Integer;
-use test_print::number;
-use test_print::rest;
-use test_print::text;
 
-fn display(i: Integer, len: usize) {
-    let laid = i.to_start_array_display();
-    let array = laid.array;
-    number(len as u64);
-    text(b" ");
-    rest(&array, laid.start);
+// An integer of one of the eight types.
+enum Value {
+    U8(u8),
+    U16(u16),
+    U32(u32),
+    U64(u64),
+    I8(i8),
+    I16(i16),
+    I32(i32),
+    I64(i64),
 }
 
-fn hexadecimal(i: Integer, flags: FormattingFlags) {
-    let laid = i.to_start_array_hexadecimal(flags);
-    let array = laid.array;
-    rest(&array, laid.start);
+// A number in decimal, or a field of another form.
+enum Signed {
+    Plus(u64),
+    Minus(u64),
+    Other,
 }
 
-fn binary(i: Integer, flags: FormattingFlags) {
-    let laid = i.to_start_array_binary(flags);
-    let array = laid.array;
-    rest(&array, laid.start);
-}
-
-fn debug(i: Integer, len: usize, flags: FormattingFlags) {
-    let num_fmt = flags.num_fmt;
-    text(b", ");
-    match num_fmt {
-        NumberFormatting::Decimal => display(i, len),
-        NumberFormatting::Hexadecimal => {
-            number(len as u64);
-            text(b" ");
-            hexadecimal(i, flags)
-        }
-        NumberFormatting::Binary => {
-            number(len as u64);
-            text(b" ");
-            binary(i, flags)
-        }
+// The greatest number of a type, by its place in put_integer.
+fn greatest(kind: usize) -> u64 {
+    match kind {
+        0 => 255,
+        1 => 65535,
+        2 => 4294967295,
+        3 => 18446744073709551615,
+        4 => 127,
+        5 => 32767,
+        6 => 2147483647,
+        _ => 9223372036854775807,
     }
 }
 
-fn case_u8(x: u8) {
-    let i = pargument::to_integer_u8(x);
+// n, at most the greatest number of an unsigned type, as a value of it.
+fn unsigned(kind: usize, n: u64) -> Value {
+    if kind == 0 {
+        return Value::U8((n % 256) as u8);
+    }
+    if kind == 1 {
+        return Value::U16((n % 65536) as u16);
+    }
+    if kind == 2 {
+        return Value::U32((n % 4294967296) as u32);
+    }
+    Value::U64(n)
+}
+
+// n, at most the greatest number of a type, as a value of it; !n where that is to be negative.
+fn to_value(kind: usize, is_negative: bool, n: u64) -> Value {
+    if kind < 4 {
+        return unsigned(kind, n);
+    }
+    if kind == 4 {
+        let x = (n % 128) as i8;
+        return Value::I8(if is_negative { !x } else { x });
+    }
+    if kind == 5 {
+        let x = (n % 32768) as i16;
+        return Value::I16(if is_negative { !x } else { x });
+    }
+    if kind == 6 {
+        let x = (n % 2147483648) as i32;
+        return Value::I32(if is_negative { !x } else { x });
+    }
+    let x = (n % 9223372036854775808) as i64;
+    Value::I64(if is_negative { !x } else { x })
+}
+
+// The sign, the absolute value and the width of a value.
+fn to_integer(v: Value) -> Integer {
+    match v {
+        Value::U8(x) => pargument::to_integer_u8(x),
+        Value::U16(x) => pargument::to_integer_u16(x),
+        Value::U32(x) => pargument::to_integer_u32(x),
+        Value::U64(x) => pargument::to_integer_u64(x),
+        Value::I8(x) => pargument::to_integer_i8(x),
+        Value::I16(x) => pargument::to_integer_i16(x),
+        Value::I32(x) => pargument::to_integer_i32(x),
+        Value::I64(x) => pargument::to_integer_i64(x),
+    }
+}
+
+// The length of the display form.
+fn display_len(v: Value) -> usize {
+    match v {
+        Value::U8(x) => pwrapper::compute_display_len_u8(x),
+        Value::U16(x) => pwrapper::compute_display_len_u16(x),
+        Value::U32(x) => pwrapper::compute_display_len_u32(x),
+        Value::U64(x) => pwrapper::compute_display_len_u64(x),
+        Value::I8(x) => pwrapper::compute_display_len_i8(x),
+        Value::I16(x) => pwrapper::compute_display_len_i16(x),
+        Value::I32(x) => pwrapper::compute_display_len_i32(x),
+        Value::I64(x) => pwrapper::compute_display_len_i64(x),
+    }
+}
+
+// The length of the debug form.
+fn debug_len(v: Value, flags: FormattingFlags) -> usize {
+    match v {
+        Value::U8(x) => pwrapper::compute_debug_len_u8(x, flags),
+        Value::U16(x) => pwrapper::compute_debug_len_u16(x, flags),
+        Value::U32(x) => pwrapper::compute_debug_len_u32(x, flags),
+        Value::U64(x) => pwrapper::compute_debug_len_u64(x, flags),
+        Value::I8(x) => pwrapper::compute_debug_len_i8(x, flags),
+        Value::I16(x) => pwrapper::compute_debug_len_i16(x, flags),
+        Value::I32(x) => pwrapper::compute_debug_len_i32(x, flags),
+        Value::I64(x) => pwrapper::compute_debug_len_i64(x, flags),
+    }
+}
+
+// The flags of the forms that a case prints: 0 and 1 decimal, 2 to 4 hexadecimal, 5 and 6 binary.
+fn flags_of(form: usize) -> FormattingFlags {
     let plain = FormattingFlags::new();
     let alternate = plain.set_alternate(true);
-    text(b"u8 ");
-    display(i, pwrapper::compute_display_len_u8(x));
-    debug_u8(x, alternate);
-    debug_u8(x, plain.set_hexadecimal());
-    debug_u8(x, alternate.set_lower_hexadecimal());
-    debug_u8(x, alternate.set_hexadecimal());
-    debug_u8(x, plain.set_binary());
-    debug_u8(x, alternate.set_binary());
-    text(b"\n");
+    match form {
+        0 => plain,
+        1 => alternate,
+        2 => plain.set_hexadecimal(),
+        3 => alternate.set_lower_hexadecimal(),
+        4 => alternate.set_hexadecimal(),
+        5 => plain.set_binary(),
+        _ => alternate.set_binary(),
+    }
 }
 
-fn debug_u8(x: u8, flags: FormattingFlags) {
-    debug(
-        pargument::to_integer_u8(x),
-        pwrapper::compute_debug_len_u8(x, flags),
-        flags,
-    );
+// The length of a form: 0 is the display form, the others are the debug form.
+fn form_len(v: Value, form: usize) -> usize {
+    if form == 0 {
+        return display_len(v);
+    }
+    debug_len(v, flags_of(form))
 }
 
-fn case_u16(x: u16) {
-    let i = pargument::to_integer_u16(x);
-    let plain = FormattingFlags::new();
-    let alternate = plain.set_alternate(true);
-    text(b"u16 ");
-    display(i, pwrapper::compute_display_len_u16(x));
-    debug_u16(x, alternate);
-    debug_u16(x, plain.set_hexadecimal());
-    debug_u16(x, alternate.set_lower_hexadecimal());
-    debug_u16(x, alternate.set_hexadecimal());
-    debug_u16(x, plain.set_binary());
-    debug_u16(x, alternate.set_binary());
-    text(b"\n");
+// The text in decimal.
+fn put_decimal(i: Integer, out: &mut [u8; 8192], at: usize) -> usize {
+    let laid = i.to_start_array_display();
+    let array = laid.array;
+    put_bytes(out, at, part(&array, laid.start, 21))
 }
 
-fn debug_u16(x: u16, flags: FormattingFlags) {
-    debug(
-        pargument::to_integer_u16(x),
-        pwrapper::compute_debug_len_u16(x, flags),
-        flags,
-    );
+// The text in hexadecimal.
+fn put_hexadecimal(i: Integer, form: usize, out: &mut [u8; 8192], at: usize) -> usize {
+    let laid = i.to_start_array_hexadecimal(flags_of(form));
+    let array = laid.array;
+    put_bytes(out, at, part(&array, laid.start, 18))
 }
 
-fn case_u32(x: u32) {
-    let i = pargument::to_integer_u32(x);
-    let plain = FormattingFlags::new();
-    let alternate = plain.set_alternate(true);
-    text(b"u32 ");
-    display(i, pwrapper::compute_display_len_u32(x));
-    debug_u32(x, alternate);
-    debug_u32(x, plain.set_hexadecimal());
-    debug_u32(x, alternate.set_lower_hexadecimal());
-    debug_u32(x, alternate.set_hexadecimal());
-    debug_u32(x, plain.set_binary());
-    debug_u32(x, alternate.set_binary());
-    text(b"\n");
+// The text in binary.
+fn put_binary(i: Integer, form: usize, out: &mut [u8; 8192], at: usize) -> usize {
+    let laid = i.to_start_array_binary(flags_of(form));
+    let array = laid.array;
+    put_bytes(out, at, part(&array, laid.start, 66))
 }
 
-fn debug_u32(x: u32, flags: FormattingFlags) {
-    debug(
-        pargument::to_integer_u32(x),
-        pwrapper::compute_debug_len_u32(x, flags),
-        flags,
-    );
+// The text of a form.
+fn put_form(i: Integer, form: usize, out: &mut [u8; 8192], at: usize) -> usize {
+    if form < 2 {
+        return put_decimal(i, out, at);
+    }
+    if form < 5 {
+        return put_hexadecimal(i, form, out, at);
+    }
+    put_binary(i, form, out, at)
 }
 
-fn case_u64(x: u64) {
-    let i = pargument::to_integer_u64(x);
-    let plain = FormattingFlags::new();
-    let alternate = plain.set_alternate(true);
-    text(b"u64 ");
-    display(i, pwrapper::compute_display_len_u64(x));
-    debug_u64(x, alternate);
-    debug_u64(x, plain.set_hexadecimal());
-    debug_u64(x, alternate.set_lower_hexadecimal());
-    debug_u64(x, alternate.set_hexadecimal());
-    debug_u64(x, plain.set_binary());
-    debug_u64(x, alternate.set_binary());
-    text(b"\n");
+// The length of a form of a value, in a text, and its text.
+fn put_one(v: Value, form: usize, text: &[u8], out: &mut [u8; 8192], at: usize) -> usize {
+    let at = put_template(out, at, text, form_len(v, form) as u64, 0);
+    put_form(to_integer(v), form, out, at)
 }
 
-fn debug_u64(x: u64, flags: FormattingFlags) {
-    debug(
-        pargument::to_integer_u64(x),
-        pwrapper::compute_debug_len_u64(x, flags),
-        flags,
-    );
+// The length and the text of each form of a value.
+fn put_forms(v: Value, out: &mut [u8; 8192], at: usize) -> usize {
+    let mut to = put_one(v, 0, b"% ", out, at);
+    let mut form = 1;
+    while form < 7 {
+        to = put_one(v, form, b", % ", out, to);
+        form += 1;
+    }
+    put_bytes(out, to, b"\n")
 }
 
-fn case_i8(x: i8) {
-    let i = pargument::to_integer_i8(x);
-    let plain = FormattingFlags::new();
-    let alternate = plain.set_alternate(true);
-    text(b"i8 ");
-    display(i, pwrapper::compute_display_len_i8(x));
-    debug_i8(x, alternate);
-    debug_i8(x, plain.set_hexadecimal());
-    debug_i8(x, alternate.set_lower_hexadecimal());
-    debug_i8(x, alternate.set_hexadecimal());
-    debug_i8(x, plain.set_binary());
-    debug_i8(x, alternate.set_binary());
-    text(b"\n");
+// A number in decimal, behind a minus or not.
+fn signed_number(s: &[u8]) -> Signed {
+    if 0 < s.len() {
+        if s[0] == b'-' {
+            return match number(&s[1..], u64::MAX) {
+                Number::Is(n) => Signed::Minus(n),
+                Number::Other => Signed::Other,
+            };
+        }
+    }
+    match number(s, u64::MAX) {
+        Number::Is(n) => Signed::Plus(n),
+        Number::Other => Signed::Other,
+    }
 }
 
-fn debug_i8(x: i8, flags: FormattingFlags) {
-    debug(
-        pargument::to_integer_i8(x),
-        pwrapper::compute_debug_len_i8(x, flags),
-        flags,
-    );
+// A value of a type: n, or !n.
+fn put_value(kind: usize, is_negative: bool, n: u64, out: &mut [u8; 8192], at: usize) -> usize {
+    if greatest(kind) < n {
+        return 0;
+    }
+    put_forms(to_value(kind, is_negative, n), out, at)
 }
 
-fn case_i16(x: i16) {
-    let i = pargument::to_integer_i16(x);
-    let plain = FormattingFlags::new();
-    let alternate = plain.set_alternate(true);
-    text(b"i16 ");
-    display(i, pwrapper::compute_display_len_i16(x));
-    debug_i16(x, alternate);
-    debug_i16(x, plain.set_hexadecimal());
-    debug_i16(x, alternate.set_lower_hexadecimal());
-    debug_i16(x, alternate.set_hexadecimal());
-    debug_i16(x, plain.set_binary());
-    debug_i16(x, alternate.set_binary());
-    text(b"\n");
+// `u8,VALUE` to `i64,VALUE`: the display form, and the debug form by six flags.
+pub(crate) fn put_integer(word: &[u8], s: &[u8], out: &mut [u8; 8192], at: usize) -> usize {
+    let kind = place_of(word, b"u8,u16,u32,u64,i8,i16,i32,i64");
+    if 7 < kind {
+        return 0;
+    }
+    match signed_number(s) {
+        Signed::Plus(n) => put_value(kind, false, n, out, at),
+        Signed::Minus(n) => {
+            if kind < 4 {
+                return 0;
+            }
+            if n == 0 {
+                return 0;
+            }
+            put_value(kind, true, n - 1, out, at)
+        }
+        Signed::Other => 0,
+    }
 }
 
-fn debug_i16(x: i16, flags: FormattingFlags) {
-    debug(
-        pargument::to_integer_i16(x),
-        pwrapper::compute_debug_len_i16(x, flags),
-        flags,
-    );
+// The display form of an integer, and its bits in hexadecimal and binary.
+fn put_texts(i: Integer, out: &mut [u8; 8192], at: usize) -> usize {
+    let at = put_form(i, 0, out, at);
+    let at = put_bytes(out, at, b" ");
+    let at = put_form(i, 2, out, at);
+    let at = put_bytes(out, at, b" ");
+    put_form(i, 5, out, at)
 }
 
-fn case_i32(x: i32) {
-    let i = pargument::to_integer_i32(x);
-    let plain = FormattingFlags::new();
-    let alternate = plain.set_alternate(true);
-    text(b"i32 ");
-    display(i, pwrapper::compute_display_len_i32(x));
-    debug_i32(x, alternate);
-    debug_i32(x, plain.set_hexadecimal());
-    debug_i32(x, alternate.set_lower_hexadecimal());
-    debug_i32(x, alternate.set_hexadecimal());
-    debug_i32(x, plain.set_binary());
-    debug_i32(x, alternate.set_binary());
-    text(b"\n");
-}
-
-fn debug_i32(x: i32, flags: FormattingFlags) {
-    debug(
-        pargument::to_integer_i32(x),
-        pwrapper::compute_debug_len_i32(x, flags),
-        flags,
-    );
-}
-
-fn case_i64(x: i64) {
-    let i = pargument::to_integer_i64(x);
-    let plain = FormattingFlags::new();
-    let alternate = plain.set_alternate(true);
-    text(b"i64 ");
-    display(i, pwrapper::compute_display_len_i64(x));
-    debug_i64(x, alternate);
-    debug_i64(x, plain.set_hexadecimal());
-    debug_i64(x, alternate.set_lower_hexadecimal());
-    debug_i64(x, alternate.set_hexadecimal());
-    debug_i64(x, plain.set_binary());
-    debug_i64(x, alternate.set_binary());
-    text(b"\n");
-}
-
-fn debug_i64(x: i64, flags: FormattingFlags) {
-    debug(
-        pargument::to_integer_i64(x),
-        pwrapper::compute_debug_len_i64(x, flags),
-        flags,
-    );
-}
-
-// Zero, the edges of the digit counts, and the greatest of each type.
-pub(crate) fn unsigned() {
-    unsigned_8();
-    unsigned_16();
-    unsigned_32();
-    unsigned_64();
-    unsigned_64_long();
-}
-
-fn unsigned_8() {
-    case_u8(0);
-    case_u8(9);
-    case_u8(10);
-    case_u8(99);
-    case_u8(100);
-    case_u8(128);
-    case_u8(255);
-}
-
-fn unsigned_16() {
-    case_u16(0);
-    case_u16(999);
-    case_u16(1000);
-    case_u16(9999);
-    case_u16(10000);
-    case_u16(65535);
-}
-
-fn unsigned_32() {
-    case_u32(0);
-    case_u32(65536);
-    case_u32(99999999);
-    case_u32(100000000);
-    case_u32(4294967295);
-}
-
-fn unsigned_64() {
-    case_u64(0);
-    case_u64(15);
-    case_u64(16);
-    case_u64(255);
-    case_u64(256);
-    case_u64(4294967296);
-}
-
-fn unsigned_64_long() {
-    case_u64(999999999999);
-    case_u64(1000000000000);
-    case_u64(9999999999999999999);
-    case_u64(10000000000000000000);
-    case_u64(18446744073709551615);
-}
-
-// The least and the greatest of each type, and the numbers around zero.
-pub(crate) fn signed() {
-    signed_8();
-    signed_16();
-    signed_32();
-    signed_64();
-}
-
-fn signed_8() {
-    case_i8(-128);
-    case_i8(-127);
-    case_i8(-10);
-    case_i8(-9);
-    case_i8(-1);
-    case_i8(0);
-    case_i8(1);
-    case_i8(127);
-}
-
-fn signed_16() {
-    case_i16(-32768);
-    case_i16(-32767);
-    case_i16(-10);
-    case_i16(-9);
-    case_i16(-1);
-    case_i16(0);
-    case_i16(1);
-    case_i16(32767);
-}
-
-fn signed_32() {
-    case_i32(-2147483648);
-    case_i32(-2147483647);
-    case_i32(-10);
-    case_i32(-9);
-    case_i32(-1);
-    case_i32(0);
-    case_i32(1);
-    case_i32(2147483647);
-}
-
-fn signed_64() {
-    case_i64(-9223372036854775808);
-    case_i64(-9223372036854775807);
-    case_i64(-10);
-    case_i64(-9);
-    case_i64(-1);
-    case_i64(0);
-    case_i64(1);
-    case_i64(9223372036854775807);
-}
-
-// An Integer that is negative and zero, and one whose mask keeps four bits.
-pub(crate) fn zero_below_zero() {
-    let flags = FormattingFlags::new();
+// An integer of its sign, its absolute value and the mask behind that.
+fn put_made(
+    is_negative: bool,
+    unsigned: u64,
+    fields: &[u8],
+    out: &mut [u8; 8192],
+    at: usize,
+) -> usize {
+    let Number::Is(mask) = number(later_fields(fields), u64::MAX) else {
+        return 0;
+    };
     let i = Integer {
-        is_negative: true,
-        unsigned: 0,
-        mask: 255,
+        is_negative,
+        unsigned,
+        mask,
     };
-    text(b"negative zero: ");
-    display(i, 2);
-    text(b" ");
-    hexadecimal(i, flags);
-    text(b" ");
-    binary(i, flags);
-    text(b"\n");
-    let j = Integer {
-        is_negative: true,
-        unsigned: 18446744073709551615,
-        mask: 15,
-    };
-    text(b"four bits of minus the greatest: ");
-    display(j, 21);
-    text(b" ");
-    hexadecimal(j, flags);
-    text(b" ");
-    binary(j, flags);
-    text(b"\n");
+    let at = put_bytes(out, at, fields);
+    let at = put_bytes(out, at, b": ");
+    let at = put_texts(i, out, at);
+    put_bytes(out, at, b"\n")
+}
+
+// `integer,UNSIGNED,MASK`, with a minus before UNSIGNED or not: the display form, and the bits.
+pub(crate) fn put_parts(fields: &[u8], out: &mut [u8; 8192], at: usize) -> usize {
+    match signed_number(first_field(fields)) {
+        Signed::Plus(n) => put_made(false, n, fields, out, at),
+        Signed::Minus(n) => put_made(true, n, fields, out, at),
+        Signed::Other => 0,
+    }
 }

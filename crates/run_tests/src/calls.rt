@@ -6,7 +6,7 @@ use fields::from_hex;
 use fields::index_of;
 use fields::later_fields;
 use fields::number;
-use fields::same;
+use fields::place_of;
 use formatting::FormattingFlags;
 use formatting::flags_of;
 
@@ -23,29 +23,15 @@ pub enum Head {
     Other,
 }
 
-// The place of a word among the first k fields of a line.
-fn place_of(words: &[u8], k: u64, word: &[u8]) -> Number {
-    let mut rest = words;
-    let mut n: u64 = 0;
-    while n < k {
-        if same(first_field(rest), word) {
-            return Number::Is(n);
-        }
-        let later = later_fields(rest);
-        rest = later;
-        n += 1;
-    }
-    Number::Other
-}
-
 // `WORD,FLAGS,N,NAME`.
 pub(crate) fn read_head(head: &[u8]) -> Head {
     let fields = later_fields(head);
     let others = later_fields(fields);
-    if let Number::Is(word) = place_of(b"show,both,add,count,write", 5, first_field(head)) {
+    let word = place_of(first_field(head), b"show,both,add,count,write");
+    if word < 5 {
         if let Number::Is(flags) = number(first_field(fields), 11) {
             if let Number::Is(n) = number(first_field(others), u64::MAX) {
-                return Head::Is(word, flags_of(flags), n as usize);
+                return Head::Is(word as u64, flags_of(flags), n as usize);
             }
         }
     }
@@ -64,7 +50,11 @@ fn call_number(name: &[u8]) -> Number {
         b"open_struct,open_tuple,open_list,open_set,field,tuple_field,entry,finish,sub_formatter,\
           end_formatter,str,str_debug,ascii,ascii_debug,char,char_debug,repeated,unsigned,\
           unsigned_debug,signed,signed_debug,no_call";
-    place_of(names, 22, name)
+    let n = place_of(name, names);
+    if n < 22 {
+        return Number::Is(n as u64);
+    }
+    Number::Other
 }
 
 // A field that is left out is 0.

@@ -7,8 +7,8 @@ use Prim.Native.Nat.{ℕ, zero, suc, _+_, _-_, _/_, _^_, _≤_, _<_}
 use native.Mathlib.Omega.{arith}
 use lib.Dec.{leb, eqb}
 use lib.IntN.{ℤ, pos, negsuc}
-use lib.ListN.{length, take, drop, getD, length-drop}
-use lib.Seq.{take-all}
+use lib.ListN.{length, take, drop, getD}
+use Rattle.fields.proofs.Splitting.{rest-all}
 use mir.Syntax.{w64}
 use mir.Val.{toZ}
 use mir.Facts.{toZ-neg}
@@ -49,10 +49,6 @@ module _ (w : Width) (g : ℕ) (e : g + 1 ≡ 2 ^ bitsOf w) where
 
   pub least-half : g / 2 + 1 ≡ 2 ^ (bitsOf w - 1)
   least-half = omega (arith, half w)
-
--- the rest of a text from a place on
-pub rest-all : (i : ℕ) (s : List ℕ) → take (length s - i) (drop i s) ≡ drop i s
-rest-all i s = take-all (length s - i) (drop i s) (simp length-drop (omega arith))
 
 -- a signed value: nothing, a minus first, or none
 pub signed-empty : (k : ℕ) (s : List ℕ) → length s ≡ 0 → none ≡ signedOf k s

@@ -9,12 +9,11 @@ use lib.Dec.{eqb}
 use lib.ListN.{length, take, drop}
 use Rattle.fields.specs.Fields.{bytes, same, indexOf, longer, fields}
 use Rattle.fields.specs.Decimal.{decimalOf, upTo}
-use Rattle.fields.proofs.Splitting.{index-le, fields-one, fields-more}
+use Rattle.fields.proofs.Splitting.{index-le, fields-one, fields-more, rest-all}
 use Rattle.sheet_line.specs.declared.begin.Flags.the-variants.{NoFlags}
 use Rattle.sheet_line.specs.declared.begin.Begin.the-variants.{Bad}
 use Rattle.sheet_line.specs.Begin.{flagFields, sized, sizeFields, beginFields}
 use Rattle.sheet_line.specs.Line.{callFields}
-use Rattle.sheet_line.proofs.Decimals.{rest-all}
 
 -- there is always a field
 pub fields-some : (s : List ℕ) → fields s ≡ [] → ⊥

@@ -1,11 +1,11 @@
 // Writes of integers. The place k of a name is that of its type among u8, u16, u32, u64, i8, i16,
 // i32 and i64.
 use crate::texts::Played;
-use crate::words::place_of;
 use fields::Number;
 use fields::first_field;
 use fields::later_fields;
 use fields::number;
+use fields::place_of;
 use fields::same;
 use formatting::FormattingFlags;
 use formatting::flags_of;
@@ -139,14 +139,20 @@ pub(crate) fn debug_call(k: usize, arguments: &[u8], buf: &mut [u8], at: usize) 
     let Value::Is(x) = value_of(k, first_field(arguments)) else {
         return Played::Other;
     };
-    let n = place_of(
-        later_fields(arguments),
-        b"dec,upper,plain dec,upper,alt dec,lower,plain dec,lower,alt \
-        hex,upper,plain hex,upper,alt hex,lower,plain hex,lower,alt \
-        bin,upper,plain bin,upper,alt bin,lower,plain bin,lower,alt",
-    );
-    if 11 < n {
+    let words = later_fields(arguments);
+    let base = place_of(first_field(words), b"dec,hex,bin");
+    let others = later_fields(words);
+    let digits = place_of(first_field(others), b"upper,lower");
+    let layout = place_of(later_fields(others), b"plain,alt");
+    if 2 < base {
         return Played::Other;
     }
+    if 1 < digits {
+        return Played::Other;
+    }
+    if 1 < layout {
+        return Played::Other;
+    }
+    let n = 4 * base + 2 * digits + layout;
     Played::Gave(debug(x, flags_of(n as u64), buf, at))
 }

@@ -4,13 +4,13 @@ mod cursor;
 mod integers;
 mod print;
 mod texts;
-mod words;
 
 use cursor::cursor_call;
 use fields::Number;
 use fields::first_field;
 use fields::later_fields;
 use fields::number;
+use fields::place_of;
 use fields::same;
 use integers::debug_call;
 use integers::display_call;
@@ -30,19 +30,18 @@ use texts::repeated_call;
 use texts::text_call;
 use texts::twice_call;
 use utils::slice_up_to_len;
-use words::place_of;
 
 // Plays a write by its name.
 fn play(name: &[u8], arguments: &[u8], buf: &mut [u8], at: usize) -> Played {
     let k = place_of(
         name,
-        b"write_str write_str_debug write_ascii write_ascii_debug \
-        write_str_range write_str_range_debug write_ascii_range write_ascii_range_debug \
-        write_u8_display write_u16_display write_u32_display write_u64_display \
-        write_i8_display write_i16_display write_i32_display write_i64_display \
-        write_u8_debug write_u16_debug write_u32_debug write_u64_debug \
-        write_i8_debug write_i16_debug write_i32_debug write_i64_debug \
-        write_char write_char_debug write_ascii_repeated",
+        b"write_str,write_str_debug,write_ascii,write_ascii_debug,\
+        write_str_range,write_str_range_debug,write_ascii_range,write_ascii_range_debug,\
+        write_u8_display,write_u16_display,write_u32_display,write_u64_display,\
+        write_i8_display,write_i16_display,write_i32_display,write_i64_display,\
+        write_u8_debug,write_u16_debug,write_u32_debug,write_u64_debug,\
+        write_i8_debug,write_i16_debug,write_i32_debug,write_i64_debug,\
+        write_char,write_char_debug,write_ascii_repeated",
     );
     if k < 4 {
         return text_call(k, arguments, buf, at);
@@ -86,7 +85,7 @@ fn written(
 fn case(line: &[u8], out: &mut [u8], end: usize) -> usize {
     let name = first_field(line);
     let rest = later_fields(line);
-    let k = place_of(name, b"from_custom truncate");
+    let k = place_of(name, b"from_custom,truncate");
     if k < 2 {
         return cursor_call(k, rest, out, end);
     }
