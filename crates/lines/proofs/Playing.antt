@@ -1,4 +1,4 @@
--- Whatever the pieces, what is written is what is to be printed: the theorem `PlaysRight` for every program.
+-- Whatever the pieces, what is written is what is to be printed, or a beginning of it: the theorems `PlaysRight` and `BreaksOffRight` for every program.
 use mathlib.Core.Bool.{Bool, true, false}
 use mathlib.Core.Path.{_≡_, refl, ap, sym, _∙_}
 use mathlib.Core.List.{List, [], _∷_, _++_, append-assoc, append-nil}
@@ -6,29 +6,43 @@ use Prim.Native.Nat.{ℕ}
 use native.Mathlib.Omega.{arith}
 use Rattle.lines.specs.declared.Reader.{Reader}
 use Rattle.lines.specs.declared.Taken.{Taken}
-use Rattle.lines.specs.Reading.{held, ahead, aheadOf, Takes, More}
-use Rattle.lines.specs.Played.{At, standing, remains, Over, answers, ends, awaits, Steps, joined, Plays, steps, reads, writes, stops, PlaysRight}
+use Rattle.lines.specs.Lines.{linesOf, clipped}
+use Rattle.lines.specs.Reading.{held, ahead, aheadOf, MayFollow, Takes, More}
+use Rattle.lines.specs.Played.{At, standing, remains, Over, answers, ends, awaits, Steps, joined, Plays, rests, steps, reads, writes, PlaysRight, BreaksOffRight}
 
 pub apart : (t : Bool) → t ≡ true → t ≡ false → ⊥
 apart t p q = let z : _≡_ {A = ℕ} 0 1 = cc in omega arith
 
 module _ {S : Type 0} (left : S → List (List ℕ) → List ℕ) (limit : ℕ) where
-  -- from anywhere on, what is written is what is still to be written
-  all : {a : At S} {ins outs : List (List ℕ)} → Plays left limit a ins outs → (a .ended ≡ true → joined ins ≡ []) → joined outs ≡ remains left limit a (joined ins)
-  all {a} {ins} (steps w t q) f = all q (λ y. f (sym (t .ended) ∙ y)) ∙ t .prints (joined ins) f
-  all (reads {s} {h} {k} {p} {e} {ins} piece end z q) f = all q (λ y. ap joined (z y .1)) ∙ ap (λ (b : List ℕ). p ++ left s (ahead limit k b)) (append-assoc h piece (joined ins))
-  all (writes {s} {h} {k} {p} q) f = ap (λ (t : List ℕ). p ++ t) (all q f)
-  all (stops {s} {h} {k} ins o) f = sym (o (ahead limit k (h ++ joined ins)))
+  -- an input that has ended gives no more pieces
+  no-more : {a b : At S} {ins outs : List (List ℕ)} → Plays left limit a ins outs b → a .ended ≡ true → (b .ended ≡ true) × (joined ins ≡ [])
+  no-more rests e = (e, refl)
+  no-more (steps w t q) e = no-more q (t .ended ∙ e)
+  no-more (reads piece end z q) e = absurd (apart false e refl)
+  no-more (writes q) e = no-more q e
+
+  -- from anywhere on, what is written and what then remains is what remained
+  all : {a b : At S} {ins outs : List (List ℕ)} → Plays left limit a ins outs b → (rest : List ℕ) → MayFollow (b .ended) rest → joined outs ++ remains left limit b rest ≡ remains left limit a (joined ins ++ rest)
+  all rests rest m = refl
+  all {a} {b} {ins} (steps w t q) rest m = all q rest m ∙ t .prints (joined ins ++ rest) (λ y. let d = no-more q (t .ended ∙ y) in rw (d .1, m (d .0)))
+  all (reads {s} {h} {k} {p} {c} {ins} piece end z q) rest m =
+      all q rest m ∙ ap (λ (x : List ℕ). p ++ left s (ahead limit k x)) (append-assoc h piece (joined ins ++ rest) ∙ ap (λ (x : List ℕ). h ++ x) (sym (append-assoc piece (joined ins) rest)))
+  all (writes {s} {h} {k} {p} {e} {c} {ins} {outs} q) rest m = append-assoc p (joined outs) (remains left limit c rest) ∙ ap (λ (x : List ℕ). p ++ x) (all q rest m)
+
+  pub breaks-off-right : (s : S) → BreaksOffRight left limit s
+  breaks-off-right s ins outs b p rest m = all p rest m
 
   pub plays-right : (s : S) → PlaysRight left limit s
-  plays-right s ins outs p = all p (λ q. absurd (apart false q refl))
+  plays-right s ins outs b p d =
+      let e : remains left limit b [] ≡ [] = rw (d .1, d .0 (ahead limit (b .skips) (b .bytes ++ []))) in
+      sym (append-nil (joined outs)) ∙ ap (λ (x : List ℕ). joined outs ++ x) (sym e) ∙ all p [] (λ y. refl) ∙ ap (λ (x : List ℕ). left s (clipped limit (linesOf x))) (append-nil (joined ins))
 
-  -- a piece that is read is a read of the program, and what is written a write
-  pub more-plays : (s : S) (r k : Reader) (before after p : List ℕ) (m : More r k before after) (ins outs : List (List ℕ)) → (k .ended ≡ true → ins ≡ []) → Plays left limit (standing s k after p) ins outs → Plays left limit (standing s r before p) (m .piece ∷ ins) outs
-  more-plays s r k before after p m ins outs e q = reads (m .piece) (k .ended) (λ y. (m .last y, e y)) (rw (m .bytes, m .skips) at q)
+  -- a piece that is read while the input has not ended is a read of the program, and what is written a write
+  pub more-plays : (s : S) (r k : Reader) (before after p : List ℕ) (m : More r k before after) (b : At S) (ins outs : List (List ℕ)) → r .ended ≡ false → Plays left limit (standing s k after p) ins outs b → Plays left limit (standing s r before p) (m .piece ∷ ins) outs b
+  more-plays s r k before after p m b ins outs e q = rw e (reads (m .piece) (k .ended) (m .last) (rw (m .bytes, m .skips) at q))
 
-  pub written-plays : (s : S) (r : Reader) (b p : List ℕ) (ins outs : List (List ℕ)) → Plays left limit (standing s r b []) ins outs → Plays left limit (standing s r b p) ins (p ∷ outs)
-  written-plays s r b p ins outs q = writes q
+  pub written-plays : (s : S) (r : Reader) (space p : List ℕ) (b : At S) (ins outs : List (List ℕ)) → Plays left limit (standing s r space []) ins outs b → Plays left limit (standing s r space p) ins (p ∷ outs) b
+  written-plays s r space p b ins outs q = writes q
 
   -- what a program does with what the reader gives
   module _ (s : S) (r : Reader) (t : Taken) (b p : List ℕ) (k : Takes limit r t b) where

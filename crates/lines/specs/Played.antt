@@ -45,20 +45,29 @@ abbrev pub joined : List (List ℕ) → List ℕ
 joined [] = []
 joined (p ∷ ps) = p ++ joined ps
 
--- from a on the program reads the pieces of the first list and writes those of the second; a read that gives nothing says that the input has ended; it stops where no line prints anything and all that is printed is written
-pub data Plays {S : Type 0} (left : S → List (List ℕ) → List ℕ) (limit : ℕ) : At S → List (List ℕ) → List (List ℕ) → Type 0 where
-  steps : {a b : At S} {ins outs : List (List ℕ)} (waits : Bool) → Steps left limit waits a b → Plays left limit b ins outs → Plays left limit a ins outs
-  reads : {s : S} {h : List ℕ} {k : Bool} {p : List ℕ} {e : Bool} {ins outs : List (List ℕ)} (piece : List ℕ) (end : Bool) → (end ≡ true → (piece ≡ []) × (ins ≡ []))
-      → Plays left limit (record { stage = s; bytes = h ++ piece; skips = k; pending = p; ended = end }) ins outs
-      → Plays left limit (record { stage = s; bytes = h; skips = k; pending = p; ended = e }) (piece ∷ ins) outs
-  writes : {s : S} {h : List ℕ} {k : Bool} {p : List ℕ} {e : Bool} {ins outs : List (List ℕ)} → Plays left limit (record { stage = s; bytes = h; skips = k; pending = []; ended = e }) ins outs
-      → Plays left limit (record { stage = s; bytes = h; skips = k; pending = p; ended = e }) ins (p ∷ outs)
-  stops : {s : S} {h : List ℕ} {k : Bool} {e : Bool} (ins : List (List ℕ)) → Over left s → Plays left limit (record { stage = s; bytes = h; skips = k; pending = []; ended = e }) ins []
+-- from the first place to the second the program reads the pieces of the first list and writes those of the second; it reads while the input has not ended, and a read that gives nothing says that it has
+pub data Plays {S : Type 0} (left : S → List (List ℕ) → List ℕ) (limit : ℕ) : At S → List (List ℕ) → List (List ℕ) → At S → Type 0 where
+  rests : {a : At S} → Plays left limit a [] [] a
+  steps : {a b c : At S} {ins outs : List (List ℕ)} (waits : Bool) → Steps left limit waits a b → Plays left limit b ins outs c → Plays left limit a ins outs c
+  reads : {s : S} {h : List ℕ} {k : Bool} {p : List ℕ} {c : At S} {ins outs : List (List ℕ)} (piece : List ℕ) (end : Bool) → (end ≡ true → piece ≡ [])
+      → Plays left limit (record { stage = s; bytes = h ++ piece; skips = k; pending = p; ended = end }) ins outs c
+      → Plays left limit (record { stage = s; bytes = h; skips = k; pending = p; ended = false }) (piece ∷ ins) outs c
+  writes : {s : S} {h : List ℕ} {k : Bool} {p : List ℕ} {e : Bool} {c : At S} {ins outs : List (List ℕ)} → Plays left limit (record { stage = s; bytes = h; skips = k; pending = []; ended = e }) ins outs c
+      → Plays left limit (record { stage = s; bytes = h; skips = k; pending = p; ended = e }) ins (p ∷ outs) c
 
 -- a program begins with nothing read and nothing printed
 abbrev pub begins : {S : Type 0} → S → At S
 begins s = record { stage = s; bytes = []; skips = false; pending = []; ended = false }
 
--- whatever pieces the input comes in, and whenever what is printed is written: the pieces written, joined, are what the lines of the pieces read, joined, print (proved in proofs/Playing)
+-- it is done where no line prints anything and all that is printed is written
+abbrev pub Done : {S : Type 0} → (S → List (List ℕ) → List ℕ) → At S → Type 0
+Done left b = Over left (b .stage) × (b .pending ≡ [])
+
+-- whatever pieces the input comes in, and whenever what is printed is written: of a program that is done, the pieces written, joined, are what the lines of the pieces read, joined, print (proved in proofs/Playing)
 abbrev pub PlaysRight : {S : Type 0} → (S → List (List ℕ) → List ℕ) → ℕ → S → Type 0
-PlaysRight left limit s = (ins outs : List (List ℕ)) → Plays left limit (begins s) ins outs → joined outs ≡ left s (clipped limit (linesOf (joined ins)))
+PlaysRight {S} left limit s = (ins outs : List (List ℕ)) (b : At S) → Plays left limit (begins s) ins outs b → Done left b → joined outs ≡ left s (clipped limit (linesOf (joined ins)))
+
+-- and wherever it breaks off, they are a beginning of that, whatever the input goes on with (proved in proofs/Playing)
+abbrev pub BreaksOffRight : {S : Type 0} → (S → List (List ℕ) → List ℕ) → ℕ → S → Type 0
+BreaksOffRight {S} left limit s =
+    (ins outs : List (List ℕ)) (b : At S) → Plays left limit (begins s) ins outs b → (rest : List ℕ) → MayFollow (b .ended) rest → joined outs ++ remains left limit b rest ≡ left s (clipped limit (linesOf (joined ins ++ rest)))

@@ -11,14 +11,14 @@ use lib.ListN.{length, take, replicate}
 use lib.Seq.{take-all, length-take-le}
 use Rattle.lines.specs.Lines.{linesOf, maxLine, clipped}
 use Rattle.lines.specs.Played.{joined}
-use Rattle.lines.proofs.Playing.{apart, plays-right}
+use Rattle.lines.proofs.Playing.{apart, plays-right, breaks-off-right}
 use Rattle.sheet_line.specs.declared.begin.Begin.{Begin}
 use Rattle.sheet_line.specs.declared.begin.Begin.the-variants.{Bad, BadCursor, Fresh}
 use Rattle.sheet_line.specs.Begin.{beginOf}
 use Rattle.sheet_line.specs.Line.{callOfLine}
 use Rattle.sheet.specs.Sheet.{Sheet, freshSheet, stepped}
 use Rattle.sheet.specs.Printed.{printedFrom, printedAfter, printedLines}
-use Rattle.sheet_stream.specs.Left.{first, left, SheetPlaysRight}
+use Rattle.sheet_stream.specs.Left.{first, left, SheetPlaysRight, SheetBreaksOffRight}
 use Rattle.sheet_stream.specs.declared.Stream.{Stream}
 use Rattle.sheet_stream.specs.Step.{Sized, isDue, StaysReady}
 
@@ -55,7 +55,10 @@ lines-clipped [] = refl
 lines-clipped (l ∷ ls) = rw (clipped-line beginOf Bad long-begin l) (after-clipped (beginOf l) ls)
 
 pub sheet-plays-right : SheetPlaysRight
-sheet-plays-right ins outs p = plays-right left maxLine first ins outs p ∙ lines-clipped (linesOf (joined ins))
+sheet-plays-right ins outs b p d = plays-right left maxLine first ins outs b p d ∙ lines-clipped (linesOf (joined ins))
+
+pub sheet-breaks-off-right : SheetBreaksOffRight
+sheet-breaks-off-right ins outs b p rest m = breaks-off-right left maxLine first ins outs b p rest m ∙ lines-clipped (linesOf (joined ins ++ rest))
 
 -- what is ready stays so
 not-due : (h : Stream) → isDue h ≡ false → h .printed < 32768

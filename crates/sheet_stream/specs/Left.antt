@@ -6,7 +6,8 @@ use Prim.Native.Nat.{ℕ, _+_, _≤_}
 use lib.Dec.{eqb}
 use lib.ListN.{take}
 use Rattle.lines.specs.Lines.{maxLine}
-use Rattle.lines.specs.Played.{Plays, begins, joined}
+use Rattle.lines.specs.Reading.{MayFollow}
+use Rattle.lines.specs.Played.{At, remains, joined, Plays, begins, Done}
 use Rattle.sheet.specs.Sheet.{Sheet, maxRow}
 use Rattle.sheet.specs.SheetView.{sheetOf}
 use Rattle.sheet.specs.Printed.{printedFrom, printedLines, printed}
@@ -24,9 +25,14 @@ left first ls = printedLines ls
 left (later k S) ls = printedFrom k S ls
 left over ls = []
 
--- 'The call sheet': however the input comes in pieces, and whenever what is printed is written, the pieces that are written make what is to be printed for the input (proved in proofs/Playing)
+-- 'The call sheet': however the input comes in pieces, and whenever what is printed is written: of a sheet that is done, the pieces that are written make what is to be printed for the input (proved in proofs/Playing)
 abbrev pub SheetPlaysRight : Type 0
-SheetPlaysRight = (ins outs : List (List ℕ)) → Plays left maxLine (begins first) ins outs → joined outs ≡ printed (joined ins)
+SheetPlaysRight = (ins outs : List (List ℕ)) (b : At Stage) → Plays left maxLine (begins first) ins outs b → Done left b → joined outs ≡ printed (joined ins)
+
+-- 'The call sheet': and wherever it breaks off, as after a write that failed, a beginning of that, whatever the input goes on with (proved in proofs/Playing)
+abbrev pub SheetBreaksOffRight : Type 0
+SheetBreaksOffRight =
+    (ins outs : List (List ℕ)) (b : At Stage) → Plays left maxLine (begins first) ins outs b → (rest : List ℕ) → MayFollow (b .ended) rest → joined outs ++ remains left maxLine b rest ≡ printed (joined ins ++ rest)
 
 -- 'The call sheet': the stage that the code's state is, with both stacks and the lent bytes
 abbrev pub stageOf : State → List ℕ → List ℕ → List ℕ → Stage
