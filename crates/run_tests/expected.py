@@ -308,9 +308,10 @@ def answer(line):
     raise ValueError(line)
 
 
-for line in sys.stdin.read().splitlines():
-    try:
-        if line and not line.startswith("#"):
-            print(answer(line))
-    except ValueError:
-        print("bad")
+if __name__ == "__main__":
+    for line in sys.stdin.read().splitlines():
+        try:
+            if line and not line.startswith("#"):
+                print(answer(line))
+        except ValueError:
+            print("bad")
