@@ -1,10 +1,11 @@
 -- Laws of the lines of an input, and of the bytes that are held of it.
-use mathlib.Core.Bool.{Bool, true, false, cond}
+use mathlib.Core.Bool.{Bool, true, false, cond, not, _&&_}
 use mathlib.Core.Path.{_≡_, refl, ap, sym, _∙_}
 use mathlib.Core.List.{List, [], _∷_, _++_, append-nil}
 use Prim.Native.Nat.{ℕ, zero, suc, _+_, _-_, _≤_, _<_, min}
 use native.Mathlib.Numerals.{add-one}
 use native.Mathlib.Omega.{arith}
+use borrow.Author.Tests.{eq-eqb, ne-eqb, eqb-true, eqb-false}
 use lib.Dec.{eqb}
 use lib.ListN.{length, take, drop, set, getD, length-append, length-drop, length-take, drop-of-length-le}
 use lib.Seq.{take-append-le, drop-append-le, drop-append-seam, take-all, length-take-le, getD-drop, take-at, drop-at, set-at, take-suc, drop-cons, append-snoc, take-nil, take-take, drop-drop}
@@ -13,7 +14,7 @@ use Rattle.fields.proofs.Splitting.{index-le}
 use Rattle.lines.specs.declared.Reader.{Reader}
 use Rattle.lines.specs.declared.Taken.{Taken}
 use Rattle.lines.specs.Lines.{linesOf, clipped, laterLines}
-use Rattle.lines.specs.Reading.{held, heldOf, ahead, aheadOf, MayFollow, lastOf, Unended, Takes, takenNone, Skips}
+use Rattle.lines.specs.Reading.{held, heldOf, ahead, aheadOf, MayFollow, lastOf, Unended, Takes, takenNone, takenLast, Skips}
 use Rattle.lines.proofs.Playing.{apart}
 
 -- an input that is not empty: what is before the first line feed, and the lines of what is behind it
@@ -231,14 +232,11 @@ module _ (limit : ℕ) (r : Reader) (b s : List ℕ) (n : ℕ) (k : r .skips ≡
 
   -- no line feed: nothing is held, more may come, or these bytes are the last line
   module _ (g : n ≤ limit) (h : length s ≤ n) where
-    pub takes-nothing : (t : Taken) → t ≡ takenNone r → n ≡ 0 → Takes limit r t b
-    takes-nothing t q z = takes-empty limit r b t q (sym p ∙ no-bytes s (omega arith))
+    takes-part : r .ended ≡ false → Takes limit r (takenNone r) b
+    takes-part y = takes-none limit r b (rw (← p) (unended s n e limit h g)) (λ x. absurd (apart (r .ended) x y))
 
-    pub takes-part : (t : Taken) → t ≡ takenNone r → r .ended ≡ false → Takes limit r t b
-    takes-part t q y = rw q (takes-none limit r b (rw (← p) (unended s n e limit h g)) (λ x. absurd (apart (r .ended) x y)))
-
-    pub takes-last : (n ≡ 0 → ⊥) → r .ended ≡ true → Takes limit r (record { «is_line» = true; start = r .from; end = r .to; reader = record { from = r .to; to = r .to; ended = r .ended; skips = false } }) b
-    takes-last z y =
+    takes-end : (n ≡ 0 → ⊥) → r .ended ≡ true → Takes limit r (record { «is_line» = true; start = r .from; end = r .to; reader = record { from = r .to; to = r .to; ended = true; skips = false } }) b
+    takes-end z y =
         let i = index-le 10 s in
         let u = unended s n e limit h g in
         let d = held-none b (r .to) in
@@ -251,8 +249,17 @@ module _ (limit : ℕ) (r : Reader) (b s : List ℕ) (n : ℕ) (k : r .skips ≡
           same = λ x. absurd (apart true refl x);
           waits = λ x. absurd (apart true refl x);
           none = λ x. absurd (apart true refl x);
-          ended = refl;
+          ended = sym y;
         }
+
+    pub takes-last : (t : Taken) → t ≡ takenLast r n → Takes limit r t b
+    takes-last t q = rw q (by-cases (eqb n 0) refl (r .ended) refl)
+      where
+        by-cases : (z : Bool) → eqb n 0 ≡ z → (y : Bool) → r .ended ≡ y
+            → Takes limit r (cond (not z && y) (record { «is_line» = true; start = r .from; end = r .to; reader = record { from = r .to; to = r .to; ended = true; skips = false } }) (takenNone r)) b
+        by-cases true x y f = let o = eqb-true n 0 x in takes-empty limit r b (takenNone r) refl (sym p ∙ no-bytes s (omega arith))
+        by-cases false x true f = takes-end (eqb-false n 0 x) f
+        by-cases false x false f = takes-part f
 
 -- a line behind the rest of one that was too long
 pub takes-behind : (limit : ℕ) (r k : Reader) (t : Taken) (b : List ℕ) → Skips r k b → Takes limit k t b → Takes limit r t b
@@ -292,3 +299,14 @@ shifted b from to j n s p q e =
     let m = length-held b from to in
     let d : length (drop from b) ≡ length b - from = length-drop from b in
     rw (p, q) (take-at (take n (drop from b)) (drop n b) n (length-take-le n (drop from b) (omega arith)) ∙ sym (take-take n (to - from) (drop from b) (omega arith)) ∙ take-all n (held from to b) (omega arith))
+
+-- the last line, by the tests of the code
+module _ (r : Reader) (n : ℕ) where
+  pub last-none : n ≡ 0 → takenNone r ≡ takenLast r n
+  last-none e = rw (eq-eqb n 0 e)
+
+  pub last-open : (n ≡ 0 → ⊥) → r .ended ≡ false → takenNone r ≡ takenLast r n
+  last-open e f = rw (ne-eqb n 0 e, f)
+
+  pub last-ended : (n ≡ 0 → ⊥) → r .ended ≡ true → record { «is_line» = true; start = r .from; end = r .to; reader = record { from = r .to; to = r .to; ended = r .ended; skips = false } } ≡ takenLast r n
+  last-ended e f = rw (ne-eqb n 0 e, f)

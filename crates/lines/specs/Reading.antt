@@ -1,8 +1,9 @@
 -- Document 01, 'The call sheet': what the bytes that are held of an input say about its lines, whatever is read later.
-use mathlib.Core.Bool.{Bool, true, false, cond}
+use mathlib.Core.Bool.{Bool, true, false, cond, not, _&&_}
 use mathlib.Core.Path.{_≡_}
 use mathlib.Core.List.{List, [], _∷_, _++_}
 use Prim.Native.Nat.{ℕ, _-_, _≤_, _<_}
+use lib.Dec.{eqb}
 use lib.ListN.{length, take, drop}
 use Rattle.lines.specs.declared.Reader.{Reader}
 use Rattle.lines.specs.declared.Taken.{Taken}
@@ -58,6 +59,10 @@ pub record More (r k : Reader) (before after : List ℕ) : Type 0 where
 -- 'The call sheet': no line is held
 abbrev pub takenNone : Reader → Taken
 takenNone r = record { «is_line» = false; start = 0; end = 0; reader = r }
+
+-- 'The call sheet': n bytes without a line feed are the last line where the input has ended, none where they are none
+abbrev pub takenLast : Reader → ℕ → Taken
+takenLast r n = cond (not (eqb n 0) && r .ended) (record { «is_line» = true; start = r .from; end = r .to; reader = record { from = r .to; to = r .to; ended = true; skips = false } }) (takenNone r)
 
 -- 'The call sheet': the rest of a line that was too long is left out, and no line with it
 pub record Skips (r k : Reader) (b : List ℕ) : Type 0 where

@@ -5,7 +5,7 @@ ghost use mathlib.Core.List.{[]};
 ghost use Prim.Native.Nat.{_≤_};
 ghost use lib.ListN.{length, take};
 ghost use Rattle.lines.specs.Lines.{maxLine};
-ghost use Rattle.lines.specs.Reading.{held, heldOf, Skips, Takes, takenNone};
+ghost use Rattle.lines.specs.Reading.{held, heldOf, Skips, Takes, takenNone, takenLast};
 use fields::index_of;
 use utils::slice_up_to_len;
 
@@ -97,6 +97,31 @@ fn no_line(r: Reader) -> Taken
     }
 }
 
+// The last line of an input that has ended, of n bytes without a line feed; none of no bytes.
+fn last_line(r: Reader, n: usize) -> Taken
+    ensures { λ t. ⌜ t ≡ takenLast r n ⌝ }
+{
+    let ended = r.ended;
+    let to = r.to;
+    if n == 0 {
+        return no_line(r);
+    }
+    if !ended {
+        return no_line(r);
+    }
+    Taken {
+        is_line: true,
+        start: r.from,
+        end: to,
+        reader: Reader {
+            from: to,
+            to,
+            ended,
+            skips: false,
+        },
+    }
+}
+
 // The next line, where the rest of one that was too long is behind.
 fn line_in(r: Reader, space: &[u8], limit: usize) -> Taken
     requires { ⌜ (r .skips ≡ true → heldOf r (now space) ≡ []) ⌝ }
@@ -139,23 +164,7 @@ fn line_in(r: Reader, space: &[u8], limit: usize) -> Taken
             },
         };
     }
-    if n == 0 {
-        return no_line(r);
-    }
-    if !ended {
-        return no_line(r);
-    }
-    Taken {
-        is_line: true,
-        start: from,
-        end: to,
-        reader: Reader {
-            from: to,
-            to,
-            ended,
-            skips: false,
-        },
-    }
+    last_line(r, n)
 }
 
 // The next line of an input, if it is held. Of a line above the limit, the limit and one byte more

@@ -26,8 +26,15 @@ halts h s e = rw e
 pub written-done : (h : Stream) (done : Bool) → done ≡ true → emptiedOf h ≡ afterWrite h done
 written-done h done e = rw e
 
-pub written-failed : (h : Stream) (done : Bool) (s : State) → done ≡ false → s ≡ stoppedOf (h .state) → _≡_ {A = Stream} (record { reader = h .reader; state = s; printed = 0; waits = false }) (afterWrite h done)
-written-failed h done s e q = rw (e, q)
+pub written-failed : (h : Stream) (done : Bool) → done ≡ false → haltedOf (emptiedOf h) ≡ afterWrite h done
+written-failed h done e = rw e
+
+-- a promise for what is ready and one for what is not: one of the two is kept
+pub when-ready : {P A B : Type 0} → P → A → (P → A) × ((P → ⊥) → B)
+when-ready p x = ((λ q. x), λ f. absurd (f p))
+
+pub when-not-ready : {P A B : Type 0} → (P → ⊥) → B → (P → A) × ((P → ⊥) → B)
+when-not-ready f x = ((λ q. absurd (f q)), λ g. x)
 
 -- what is not ready
 pub not-ready : (h : Stream) (b out : List ℕ) → (Ready h b out → ⊥) → (false ≡ true → Ready h b out) × (false ≡ false → Ready h b out → ⊥)

@@ -11,7 +11,7 @@ ghost use Rattle.sheet_line.specs.Begin.{maxSize};
 ghost use Rattle.sheet.specs.Sheet.{maxRow, maxEnd};
 ghost use Rattle.sheet.specs.SheetView.{sheetOf};
 ghost use Rattle.sheet_stream.specs.Left.{first, later, left, stageOf, Answers};
-ghost use Rattle.sheet_stream.specs.Step.{atOf, Sized, Onward, Ready, stoppedOf, Halts, Stepped, isDue, afterWrite, fedOf};
+ghost use Rattle.sheet_stream.specs.Step.{atOf, Sized, Onward, Ready, stoppedOf, haltedOf, Halts, Stepped, isDue, afterWrite, fedOf};
 use formatting::FormattingFlags;
 use lines::MAX_LINE;
 use lines::Reader;
@@ -64,6 +64,20 @@ fn stopped(h: State) -> State
         size: h.size,
         sheet,
         going: false,
+    }
+}
+
+// With all that is held, and the run does not go on.
+fn halted(h: Stream) -> Stream
+    ensures { λ r. ⌜ r ≡ haltedOf h ⌝ }
+{
+    let reader = h.reader;
+    let state = h.state;
+    Stream {
+        reader,
+        state: stopped(state),
+        printed: h.printed,
+        waits: false,
     }
 }
 
@@ -244,9 +258,8 @@ pub fn start() -> Stream
     }
 }
 
-// One step: a line is answered, or there is none and more is awaited, or the input has ended and the
-// last line is printed. What cannot be stepped from does not go on.
-pub fn step(
+// One step of what is ready.
+fn ready_step(
     h: Stream,
     space: &[u8],
     counted: &mut [u32; 64],
@@ -255,34 +268,18 @@ pub fn step(
     text: &mut [u8; 2048],
     out: &mut [u8],
 ) -> Stream
-    ensures { λ r. ⌜ (Ready h (now (buf .entry)) (now (out .entry)) → Stepped h r (now (space .entry)) (now (counted .entry)) (now (written .entry)) (now (buf .entry)) (now (out .entry)) (now (counted .exit)) (now (written .exit)) (now (buf .exit)) (now (out .exit))) ⌝ }
-    ensures { λ r. ⌜ ((Ready h (now (buf .entry)) (now (out .entry)) → ⊥) → Halts h r (now (counted .entry)) (now (written .entry)) (now (buf .entry)) (now (out .entry)) (now (counted .exit)) (now (written .exit)) (now (buf .exit)) (now (out .exit))) ⌝ }
+    requires { ⌜ Ready h (now buf) (now out) ⌝ }
+    ensures { λ r. ⌜ Stepped h r (now (space .entry)) (now (counted .entry)) (now (written .entry)) (now (buf .entry)) (now (out .entry)) (now (counted .exit)) (now (written .exit)) (now (buf .exit)) (now (out .exit)) ⌝ }
 {
     let at = h.printed;
     let before = h.reader;
     let state = h.state;
-    if !is_ready(h, buf, out) {
-        return Stream {
-            reader: before,
-            state: stopped(state),
-            printed: at,
-            waits: false,
-        };
-    }
     let taken = next_line(before, space, MAX_LINE);
     let reader = taken.reader;
     let is_line = taken.is_line;
     if is_line {
-        let t = answer(
-            state,
-            part(space, taken.start, taken.end),
-            counted,
-            written,
-            buf,
-            text,
-            out,
-            at,
-        );
+        let l = part(space, taken.start, taken.end);
+        let t = answer(state, l, counted, written, buf, text, out, at);
         let after = t.state;
         return Stream {
             reader,
@@ -309,6 +306,26 @@ pub fn step(
     }
 }
 
+// One step: a line is answered, or there is none and more is awaited, or the input has ended and the
+// last line is printed. What cannot be stepped from does not go on.
+pub fn step(
+    h: Stream,
+    space: &[u8],
+    counted: &mut [u32; 64],
+    written: &mut [u32; 64],
+    buf: &mut [u8],
+    text: &mut [u8; 2048],
+    out: &mut [u8],
+) -> Stream
+    ensures { λ r. ⌜ (Ready h (now (buf .entry)) (now (out .entry)) → Stepped h r (now (space .entry)) (now (counted .entry)) (now (written .entry)) (now (buf .entry)) (now (out .entry)) (now (counted .exit)) (now (written .exit)) (now (buf .exit)) (now (out .exit))) ⌝ }
+    ensures { λ r. ⌜ ((Ready h (now (buf .entry)) (now (out .entry)) → ⊥) → Halts h r (now (counted .entry)) (now (written .entry)) (now (buf .entry)) (now (out .entry)) (now (counted .exit)) (now (written .exit)) (now (buf .exit)) (now (out .exit))) ⌝ }
+{
+    if !is_ready(h, buf, out) {
+        return halted(h);
+    }
+    ready_step(h, space, counted, written, buf, text, out)
+}
+
 // Whether what is printed is to be written now: before more is awaited, at the end, and where there
 // is much of it.
 pub fn is_due(h: Stream) -> bool
@@ -332,20 +349,16 @@ pub fn emptied(h: Stream, done: bool) -> Stream
 {
     let reader = h.reader;
     let state = h.state;
-    if done {
-        return Stream {
-            reader,
-            state,
-            printed: 0,
-            waits: h.waits,
-        };
-    }
-    Stream {
+    let empty = Stream {
         reader,
-        state: stopped(state),
+        state,
         printed: 0,
-        waits: false,
+        waits: h.waits,
+    };
+    if done {
+        return empty;
     }
+    halted(empty)
 }
 
 // With more of the input.

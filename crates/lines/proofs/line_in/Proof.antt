@@ -1,8 +1,7 @@
 use borrow.Author.Needs.{needs}
-use borrow.Author.Tests.{not-true, not-false}
 use native.Mathlib.Omega.{arith}
 use Prim.Native.Nat.{_+_}
-use Rattle.lines.proofs.Laws.{held-inside, takes-empty, takes-long, takes-whole, takes-nothing, takes-part, takes-last}
+use Rattle.lines.proofs.Laws.{held-inside, takes-empty, takes-long, takes-whole, takes-last}
 use Rattle.lines.proofs.line_in.Statement.{statement}
 use Rattle.lines.proofs.line_in.Tie as tie
 
@@ -47,27 +46,9 @@ returns-3 c =
 
 returns-4 : tie.Need-returns-4
 returns-4 c =
-    let at-if3 = c .before .before in
-    let at-before = at-if3 .before in
-    let d = at-before .before in
+    let d = c .before .before .before in
     let a = d .before .before .before .before .args in
-    takes-nothing (a .limit) (a .r) (a .space .now) _ _ (d .before .before .if1 .left) (d .before .part .ensures) (d .index-of .ensures .0) (at-before .if2 .left) (at-if3 .if3 .left) _ (c .no-line2 .ensures) (c .before .if4 .taken)
-
-returns-5 : tie.Need-returns-5
-returns-5 c =
-    let at-if3 = c .before .before .before in
-    let at-before = at-if3 .before in
-    let d = at-before .before in
-    let a = d .before .before .before .before .args in
-    takes-part (a .limit) (a .r) (a .space .now) _ _ (d .before .before .if1 .left) (d .before .part .ensures) (d .index-of .ensures .0) (at-before .if2 .left) (at-if3 .if3 .left) _ (c .no-line3 .ensures) (not-true _ (c .before .if5 .taken))
-
-returns-6 : tie.Need-returns-6
-returns-6 c =
-    let at-if3 = c .before .before in
-    let at-before = at-if3 .before in
-    let d = at-before .before in
-    let a = d .before .before .before .before .args in
-    takes-last (a .limit) (a .r) (a .space .now) _ _ (d .before .before .if1 .left) (d .before .part .ensures) (d .index-of .ensures .0) (at-before .if2 .left) (at-if3 .if3 .left) (c .before .if4 .left) (not-false _ (c .if5 .left))
+    takes-last (a .limit) (a .r) (a .space .now) _ _ (d .before .before .if1 .left) (d .before .part .ensures) (d .index-of .ensures .0) (c .before .before .if2 .left) (c .before .if3 .left) _ (c .last-line .ensures)
 
 pub line-in-spec : {M : Type 1} → statement M
 line-in-spec =
@@ -84,7 +65,4 @@ line-in-spec =
     add-t16
     returns-3
     (λ c κs. search needs)
-    returns-4
-    (λ c κs. search needs)
-    returns-5
-    returns-6)
+    returns-4)
