@@ -7,10 +7,18 @@ use native.Mathlib.Omega.{arith}
 use borrow.Author.Tests.{eqb-true, eqb-false}
 use borrow.Rule.Slice.PartMut.{putMid, take-put}
 use lib.Dec.{eqb}
-use lib.ListN.{length, take, drop, length-drop}
-use lib.Seq.{take-add, length-take-le}
+use lib.ListN.{length, take, drop, length-drop, length-append}
+use lib.Seq.{take-add, take-at, length-take-le}
 use Rattle.lines.specs.declared.Reader.{Reader}
 use Rattle.lines.specs.Reading.{held, heldOf, More}
+
+-- what is left of a buffer whose held bytes were moved to its beginning
+module _ (r : Reader) (b d : List ℕ) (n : ℕ) (e : n ≡ length (heldOf r b)) (f : d ≡ heldOf r b ++ drop n b) where
+  pub moved-first : take n d ≡ heldOf r b
+  moved-first = rw f (take-at (heldOf r b) (drop n b) n (sym e))
+
+  pub moved-fits : n ≤ length d
+  moved-fits = rw (f, length-append) (omega arith)
 
 -- what is read behind the bytes that were moved leaves them
 pub more : (r : Reader) (b d y : List ℕ) (n m k : ℕ) → n ≡ length (heldOf r b) → take n d ≡ heldOf r b → n ≤ length d → n + m ≤ length (putMid n k d y)

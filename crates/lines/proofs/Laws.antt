@@ -131,8 +131,8 @@ drop-take (suc k) (suc m) (x ∷ l) = let z : suc m - suc k ≡ m - k = omega ar
 length-held : (b : List ℕ) (from to : ℕ) → length (held from to b) ≡ min (to - from) (length b - from)
 length-held b from to = rw (length-take, length-drop)
 
-pub held-short : (b : List ℕ) (from to n : ℕ) → n ≡ length (held from to b) → n ≤ length b
-held-short b from to n e = let l = length-held b from to in omega arith
+pub held-short : (b : List ℕ) (from to : ℕ) → length (held from to b) ≤ length b
+held-short b from to = let l = length-held b from to in omega arith
 
 -- their first k bytes, and those behind these
 module _ (b : List ℕ) (from to k : ℕ) (s : List ℕ) (e : s ≡ held from to b) (h : k ≤ length s) where
@@ -175,7 +175,7 @@ module _ (r : Reader) (b s : List ℕ) (n : ℕ) (k : r .skips ≡ true) (p : s 
 
 -- no line is held
 takes-none : (limit : ℕ) (r : Reader) (b : List ℕ) → Unended limit (heldOf r b) → (r .ended ≡ true → aheadOf limit r b [] ≡ []) → Takes limit r (takenNone r) b
-takes-none limit r b u f = record { line = λ e. absurd (apart false e refl); fewer = λ e. absurd (apart false e refl); same = λ e rest. refl; waits = λ e. u; none = λ e. f; ended = refl }
+takes-none limit r b u f = record { line = λ e. absurd (apart false e refl); fewer = λ e. absurd (apart false e refl); same = λ e rest. refl; waits = λ e. u; none = λ e. f; ended = refl; nothing = λ e. refl }
 
 nothing-ahead : (limit : ℕ) (k : Bool) → ahead limit k [] ≡ []
 unfolding linesOf
@@ -209,6 +209,7 @@ module _ (limit : ℕ) (r : Reader) (b s : List ℕ) (n : ℕ) (k : r .skips ≡
         waits = λ x. absurd (apart true refl x);
         none = λ x. absurd (apart true refl x);
         ended = refl;
+        nothing = λ x. absurd (apart true refl x);
       }
 
   -- a line and its line feed
@@ -228,6 +229,7 @@ module _ (limit : ℕ) (r : Reader) (b s : List ℕ) (n : ℕ) (k : r .skips ≡
         waits = λ x. absurd (apart true refl x);
         none = λ x. absurd (apart true refl x);
         ended = refl;
+        nothing = λ x. absurd (apart true refl x);
       }
 
   -- no line feed: nothing is held, more may come, or these bytes are the last line
@@ -250,6 +252,7 @@ module _ (limit : ℕ) (r : Reader) (b s : List ℕ) (n : ℕ) (k : r .skips ≡
           waits = λ x. absurd (apart true refl x);
           none = λ x. absurd (apart true refl x);
           ended = sym y;
+          nothing = λ x. absurd (apart true refl x);
         }
 
     pub takes-last : (t : Taken) → t ≡ takenLast r n → Takes limit r t b
@@ -271,6 +274,7 @@ takes-behind limit r k t b S T =
       waits = λ x. T .waits x;
       none = λ x y. S .same limit [] ∙ T .none x (S .ended ∙ y);
       ended = T .ended ∙ S .ended;
+      nothing = λ x. T .nothing x;
     }
 
 -- j bytes from a place on copied to the beginning
@@ -294,11 +298,10 @@ module _ (b : List ℕ) (from to j : ℕ) (h : j < length (held from to b)) wher
       let v = getD (drop from b) j 0 in
       rw (e, shift-read, add-one j, drop-cons b j 0 (omega arith), take-suc (drop from b) j 0 (omega arith), append-snoc (take j (drop from b)) v (drop (suc j) b)) (set-at (take j (drop from b)) (getD b j 0) (drop (suc j) b) v j (length-take-le j (drop from b) (omega arith)))
 
-pub shifted : (b : List ℕ) (from to j n : ℕ) (s : List ℕ) → s ≡ copied b from j → j ≡ n → n ≡ length (held from to b) → take n s ≡ held from to b
+pub shifted : (b : List ℕ) (from to j n : ℕ) (s : List ℕ) → s ≡ copied b from j → j ≡ n → n ≡ length (held from to b) → s ≡ held from to b ++ drop n b
 shifted b from to j n s p q e =
     let m = length-held b from to in
-    let d : length (drop from b) ≡ length b - from = length-drop from b in
-    rw (p, q) (take-at (take n (drop from b)) (drop n b) n (length-take-le n (drop from b) (omega arith)) ∙ sym (take-take n (to - from) (drop from b) (omega arith)) ∙ take-all n (held from to b) (omega arith))
+    rw (p, q) (ap (λ (t : List ℕ). t ++ drop n b) (sym (take-take n (to - from) (drop from b) (omega arith)) ∙ take-all n (held from to b) (omega arith)))
 
 -- the last line, by the tests of the code
 module _ (r : Reader) (n : ℕ) where

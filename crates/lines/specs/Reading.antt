@@ -39,6 +39,10 @@ pub record Unended (limit : ℕ) (s : List ℕ) : Type 0 where
   pub short : length s ≤ limit
   pub last : linesOf s ≡ lastOf s
 
+-- 'The call sheet': no line is held
+abbrev pub takenNone : Reader → Taken
+takenNone r = record { «is_line» = false; start = 0; end = 0; reader = r }
+
 -- 'The call sheet': the next line is taken, and fewer bytes are held; where there is none, no line has ended, and none is left of an input that has ended
 pub record Takes (limit : ℕ) (r : Reader) (t : Taken) (b : List ℕ) : Type 0 where
   pub line : t .«is_line» ≡ true → (rest : List ℕ) → MayFollow (r .ended) rest → aheadOf limit r b rest ≡ held (t .start) (t .end) b ∷ aheadOf limit (t .reader) b rest
@@ -47,6 +51,7 @@ pub record Takes (limit : ℕ) (r : Reader) (t : Taken) (b : List ℕ) : Type 0 
   pub waits : t .«is_line» ≡ false → Unended limit (heldOf (t .reader) b)
   pub none : t .«is_line» ≡ false → r .ended ≡ true → aheadOf limit r b [] ≡ []
   pub ended : t .reader .ended ≡ r .ended
+  pub nothing : t .«is_line» ≡ false → t ≡ takenNone (t .reader)
 
 -- 'The call sheet': a piece is read behind the bytes that are held; where it is empty, the input has ended
 pub record More (r k : Reader) (before after : List ℕ) : Type 0 where
@@ -55,10 +60,6 @@ pub record More (r k : Reader) (before after : List ℕ) : Type 0 where
   pub skips : k .skips ≡ r .skips
   pub last : k .ended ≡ true → piece ≡ []
   pub onward : k .ended ≡ false → 0 < length piece
-
--- 'The call sheet': no line is held
-abbrev pub takenNone : Reader → Taken
-takenNone r = record { «is_line» = false; start = 0; end = 0; reader = r }
 
 -- 'The call sheet': n bytes without a line feed are the last line where the input has ended, none where they are none
 abbrev pub takenLast : Reader → ℕ → Taken

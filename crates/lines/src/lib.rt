@@ -1,10 +1,8 @@
 // The lines of an input that is read in pieces into a lent buffer (document 01, 'The call sheet').
 ghost use mathlib.Core.Bool.{true, false};
 ghost use mathlib.Core.Path.{_≡_};
-ghost use mathlib.Core.List.{[]};
-ghost use Prim.Native.Nat.{_≤_};
-ghost use lib.ListN.{length, take};
-ghost use Rattle.lines.specs.Lines.{maxLine};
+ghost use mathlib.Core.List.{[], _++_};
+ghost use lib.ListN.{length, drop};
 ghost use Rattle.lines.specs.Reading.{held, heldOf, Skips, Takes, takenNone, takenLast};
 use fields::index_of;
 use utils::slice_up_to_len;
@@ -177,8 +175,8 @@ pub fn next_line(r: Reader, space: &[u8], limit: usize) -> Taken
 
 // Moves the bytes from..to of a buffer to its beginning, and gives how many they are.
 pub fn shift(space: &mut [u8], from: usize, to: usize) -> usize
-    ensures { λ n. ⌜ (n ≡ length (held from to (now (space .entry)))) × (take n (now (space .exit)) ≡ held from to (now (space .entry))) ⌝ }
-    ensures { λ n. ⌜ n ≤ length (now (space .entry)) ⌝ }
+    ensures { λ n. ⌜ n ≡ length (held from to (now (space .entry))) ⌝ }
+    ensures { λ n. ⌜ now (space .exit) ≡ held from to (now (space .entry)) ++ drop n (now (space .entry)) ⌝ }
 {
     let n = part(space, from, to).len();
     let mut i = 0;

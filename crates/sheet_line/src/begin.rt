@@ -14,7 +14,7 @@ use formatting::NumberFormatting;
 use lines::MAX_LINE;
 
 // The greatest size of a sheet's buffer.
-pub const MAX_SIZE: u64 = 4096;
+pub const MAX_SIZE: usize = 4096;
 
 // How line 1 begins a run: a buffer's size, a cursor in it, and flags.
 pub enum Begin {
@@ -153,7 +153,7 @@ fn size_fields(s: &[u8]) -> Begin
     if j == rest.len() {
         return Begin::Bad;
     }
-    let n = number(&s[0..i], MAX_SIZE);
+    let n = number(&s[0..i], MAX_SIZE as u64);
     let p = number(&rest[0..j], u64::MAX);
     sized(n, p, flag_fields(&rest[j + 1..]))
 }

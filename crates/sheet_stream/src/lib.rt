@@ -24,6 +24,7 @@ use sheet::fresh;
 use sheet::put_bad;
 use sheet::put_refused;
 use sheet_line::Begin;
+use sheet_line::MAX_SIZE;
 use sheet_line::parse_begin;
 use utils::slice_up_to_len;
 
@@ -225,10 +226,10 @@ fn is_ready(h: Stream, buf: &[u8], out: &[u8]) -> bool
     if state.line == u64::MAX {
         return false;
     }
-    if 4096 < state.size {
+    if MAX_SIZE < state.size {
         return false;
     }
-    if buf.len() < 4096 {
+    if buf.len() < MAX_SIZE {
         return false;
     }
     if out.len() < h.printed {

@@ -6,6 +6,7 @@ use fields::put_number;
 use fields::same;
 use libc::STDOUT_FILENO;
 use line_input::read_more;
+use sheet_line::MAX_SIZE;
 use sheet_stream::emptied;
 use sheet_stream::fed;
 use sheet_stream::is_due;
@@ -18,7 +19,7 @@ use utils::slice_up_to_len;
 fn play(input: i32, output: i32) {
     let mut input_bytes = [0u8; 65536];
     let mut output_bytes = [0u8; 65536];
-    let mut run_bytes = [0u8; 4096];
+    let mut run_bytes = [0u8; MAX_SIZE];
     let mut counted = [0u32; 64];
     let mut written = [0u32; 64];
     let mut text = [0u8; 2048];

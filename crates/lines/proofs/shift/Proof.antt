@@ -5,7 +5,7 @@ use lib.ListN.{length, length-set}
 use native.Mathlib.Omega.{arith}
 use borrow.Author.Needs.{needs}
 use Rattle.lines.specs.Reading.{held}
-use Rattle.lines.proofs.Laws.{copied, held-inside, held-short, shift-next, shifted}
+use Rattle.lines.proofs.Laws.{copied, held-inside, shift-next, shifted}
 use Rattle.lines.proofs.shift.Statement.{statement}
 use Rattle.lines.proofs.shift.Tie as tie
 
@@ -46,7 +46,7 @@ returns : tie.Need-returns Inv-loop μ-loop
 returns c =
     let a = c .before .before .before .before .before .args in
     let l = c .before .loop in
-    ((l .inv .1, shifted (a .space .now) (a .from) (a .to) (l .i) _ (l .space) (l .inv .3) (omega arith) (l .inv .1)), held-short (a .space .now) (a .from) (a .to) _ (l .inv .1))
+    (l .inv .1, shifted (a .space .now) (a .from) (a .to) (l .i) _ (l .space) (l .inv .3) (omega arith) (l .inv .1))
 
 pub shift-spec : {M : Type 1} → statement M
 shift-spec =
