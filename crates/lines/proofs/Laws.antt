@@ -8,13 +8,13 @@ use native.Mathlib.Omega.{arith}
 use borrow.Author.Tests.{eq-eqb, ne-eqb, eqb-true, eqb-false}
 use lib.Dec.{eqb}
 use lib.ListN.{length, take, drop, set, getD, length-append, length-drop, length-take, drop-of-length-le}
-use lib.Seq.{take-append-le, drop-append-le, drop-append-seam, take-all, length-take-le, getD-drop, take-at, drop-at, set-at, take-suc, drop-cons, append-snoc, take-nil, take-take, drop-drop}
+use lib.Seq.{take-append-le, drop-append-le, drop-append-seam, take-all, length-take-le, getD-drop, drop-at, set-at, take-suc, drop-cons, append-snoc, take-nil, take-take, drop-drop}
 use Rattle.fields.specs.Fields.{indexOf, longer}
 use Rattle.fields.proofs.Splitting.{index-le}
 use Rattle.lines.specs.declared.Reader.{Reader}
 use Rattle.lines.specs.declared.Taken.{Taken}
 use Rattle.lines.specs.Lines.{linesOf, clipped, laterLines}
-use Rattle.lines.specs.Reading.{held, heldOf, ahead, aheadOf, MayFollow, lastOf, Unended, Takes, takenNone, takenLast, Skips}
+use Rattle.lines.specs.Reading.{held, heldOf, ahead, aheadOf, lastOf, Unended, Takes, takenNone, takenLast, Skips}
 use Rattle.lines.proofs.Playing.{apart}
 
 -- an input that is not empty: what is before the first line feed, and the lines of what is behind it
@@ -130,9 +130,6 @@ drop-take (suc k) (suc m) (x ∷ l) = let z : suc m - suc k ≡ m - k = omega ar
 
 length-held : (b : List ℕ) (from to : ℕ) → length (held from to b) ≡ min (to - from) (length b - from)
 length-held b from to = rw (length-take, length-drop)
-
-pub held-short : (b : List ℕ) (from to : ℕ) → length (held from to b) ≤ length b
-held-short b from to = let l = length-held b from to in omega arith
 
 -- their first k bytes, and those behind these
 module _ (b : List ℕ) (from to k : ℕ) (s : List ℕ) (e : s ≡ held from to b) (h : k ≤ length s) where

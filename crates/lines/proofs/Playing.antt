@@ -8,7 +8,7 @@ use Rattle.lines.specs.declared.Reader.{Reader}
 use Rattle.lines.specs.declared.Taken.{Taken}
 use Rattle.lines.specs.Lines.{linesOf, clipped}
 use Rattle.lines.specs.Reading.{held, ahead, aheadOf, MayFollow, Takes, More}
-use Rattle.lines.specs.Played.{At, standing, remains, Over, answers, ends, awaits, Steps, joined, Plays, rests, steps, reads, writes, PlaysRight, BreaksOffRight}
+use Rattle.lines.specs.Played.{At, standing, remains, Over, answers, ends, awaits, Steps, joined, Plays, rests, steps, reads, writes, PlaysRight, BreaksOffRight, MorePlays}
 
 pub apart : (t : Bool) → t ≡ true → t ≡ false → ⊥
 apart t p q = let z : _≡_ {A = ℕ} 0 1 = cc in omega arith
@@ -37,12 +37,8 @@ module _ {S : Type 0} (left : S → List (List ℕ) → List ℕ) (limit : ℕ) 
       let e : remains left limit b [] ≡ [] = rw (d .1, d .0 (ahead limit (b .skips) (b .bytes ++ []))) in
       sym (append-nil (joined outs)) ∙ ap (λ (x : List ℕ). joined outs ++ x) (sym e) ∙ all p [] (λ y. refl) ∙ ap (λ (x : List ℕ). left s (clipped limit (linesOf x))) (append-nil (joined ins))
 
-  -- a piece that is read while the input has not ended is a read of the program, and what is written a write
-  pub more-plays : (s : S) (r k : Reader) (before after p : List ℕ) (m : More r k before after) (b : At S) (ins outs : List (List ℕ)) → r .ended ≡ false → Plays left limit (standing s k after p) ins outs b → Plays left limit (standing s r before p) (m .piece ∷ ins) outs b
+  pub more-plays : MorePlays left limit
   more-plays s r k before after p m b ins outs e q = rw e (reads (m .piece) (k .ended) (m .last) (rw (m .bytes, m .skips) at q))
-
-  pub written-plays : (s : S) (r : Reader) (space p : List ℕ) (b : At S) (ins outs : List (List ℕ)) → Plays left limit (standing s r space []) ins outs b → Plays left limit (standing s r space p) ins (p ∷ outs) b
-  written-plays s r space p b ins outs q = writes q
 
   -- what a program does with what the reader gives
   module _ (s : S) (r : Reader) (t : Taken) (b p : List ℕ) (k : Takes limit r t b) where

@@ -6,7 +6,7 @@ use Prim.Native.Nat.{ℕ, _<_}
 use lib.ListN.{length}
 use Rattle.lines.specs.Lines.{linesOf, clipped}
 use Rattle.lines.specs.declared.Reader.{Reader}
-use Rattle.lines.specs.Reading.{heldOf, ahead, MayFollow, Unended}
+use Rattle.lines.specs.Reading.{heldOf, ahead, MayFollow, Unended, More}
 
 -- where a program stands: its own stage, the bytes that are read and not yet answered, whether they begin inside a line that was too long, those that are printed and not yet written, and whether the input has ended
 pub record At (S : Type 0) : Type 0 where
@@ -71,3 +71,8 @@ PlaysRight {S} left limit s = (ins outs : List (List ℕ)) (b : At S) → Plays 
 abbrev pub BreaksOffRight : {S : Type 0} → (S → List (List ℕ) → List ℕ) → ℕ → S → Type 0
 BreaksOffRight {S} left limit s =
     (ins outs : List (List ℕ)) (b : At S) → Plays left limit (begins s) ins outs b → (rest : List ℕ) → MayFollow (b .ended) rest → joined outs ++ remains left limit b rest ≡ left s (clipped limit (linesOf (joined ins ++ rest)))
+
+-- what is promised of a read (`More`) is a read of the program, while the input has not ended (proved in proofs/Playing)
+abbrev pub MorePlays : {S : Type 0} → (S → List (List ℕ) → List ℕ) → ℕ → Type 0
+MorePlays {S} left limit =
+    (s : S) (r k : Reader) (before after p : List ℕ) (m : More r k before after) (b : At S) (ins outs : List (List ℕ)) → r .ended ≡ false → Plays left limit (standing s k after p) ins outs b → Plays left limit (standing s r before p) (m .piece ∷ ins) outs b

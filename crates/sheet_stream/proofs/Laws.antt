@@ -6,7 +6,7 @@ use mathlib.Core.Option.{Option, none, some}
 use Prim.Native.Nat.{ℕ, suc, _+_, _-_, _*_, _^_, _≤_, _<_}
 use native.Mathlib.Numerals.{add-one}
 use native.Mathlib.Omega.{arith}
-use borrow.Author.Tests.{lt-ltb, leb-true, eq-eqb, ne-eqb}
+use borrow.Author.Tests.{leb-true, eq-eqb, ne-eqb}
 use lib.Dec.{eqb, ltb, leb}
 use lib.ListN.{length, take, drop, set, replicate, length-append, length-take}
 use lib.Seq.{take-suc-set, append-snoc, take-at, length-take-le}
@@ -15,7 +15,6 @@ use Rattle.str_writer.specs.Write.{Outcome, outcome, splice, put}
 use Rattle.fields.proofs.Cells.{put-fits}
 use Rattle.fields.specs.Fields.{bytes, same, fields}
 use Rattle.fields.specs.Decimal.{decimalOf, upTo}
-use Rattle.sheet_line.specs.declared.begin.Begin.{Begin}
 use Rattle.sheet_line.specs.declared.begin.Begin.the-variants.{Bad, BadCursor, Fresh}
 use Rattle.sheet_line.specs.declared.begin.Flags.{Flags}
 use Rattle.sheet_line.specs.declared.begin.Flags.the-variants.{Are, NoFlags}
@@ -27,8 +26,7 @@ use Rattle.sheet.specs.SheetView.{sheetOf, LineAnswer, answered, answering}
 use Rattle.sheet.specs.declared.Sheet as code
 use Rattle.sheet.specs.declared.Answered.{Answered}
 use borrow.Rule.Slice.PartMut.{putMid}
-use Rattle.lines.proofs.Playing.{apart}
-use Rattle.sheet.specs.Printed.{printedAfter, printedLines, printedFrom}
+use Rattle.sheet.specs.Printed.{printedFrom}
 use Rattle.sheet_stream.specs.Left.{Stage, first, later, over, left, stageOf, Answers}
 use Rattle.sheet_stream.specs.declared.State.{State}
 use Rattle.sheet_stream.specs.Step.{Sized, Onward, stoppedOf}

@@ -1,11 +1,10 @@
 -- A step keeps what is to be printed.
 use mathlib.Core.Bool.{Bool, true, false}
-use mathlib.Core.Path.{_≡_, refl, ap, sym, _∙_}
+use mathlib.Core.Path.{_≡_, refl, ap}
 use mathlib.Core.List.{List, [], _++_}
 use Prim.Native.Nat.{ℕ, _+_, _≤_}
 use native.Mathlib.Omega.{arith}
-use lib.ListN.{length, take}
-use Rattle.lines.specs.declared.Reader.{Reader}
+use lib.ListN.{take}
 use Rattle.lines.specs.declared.Taken.{Taken}
 use Rattle.lines.specs.Lines.{maxLine}
 use Rattle.lines.specs.Reading.{held, Takes}
@@ -16,7 +15,7 @@ use Rattle.sheet_stream.specs.declared.State.{State}
 use Rattle.sheet_stream.specs.declared.Stream.{Stream}
 use Rattle.sheet_stream.specs.declared.Told.{Told}
 use Rattle.sheet_stream.specs.Left.{left, stageOf, Answers}
-use Rattle.sheet_stream.specs.Step.{Sized, Onward, Ready, stoppedOf, haltedOf, Stepped, emptiedOf, afterWrite}
+use Rattle.sheet_stream.specs.Step.{Onward, Ready, stoppedOf, haltedOf, Stepped, emptiedOf, afterWrite}
 use Rattle.sheet_stream.proofs.Laws.{halted-over, onward-stopped}
 
 pub halts : (h : Stream) (s : State) → s ≡ stoppedOf (h .state) → _≡_ {A = Stream} (record { reader = h .reader; state = s; printed = h .printed; waits = false }) (haltedOf h)

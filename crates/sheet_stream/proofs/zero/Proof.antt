@@ -1,5 +1,5 @@
-use mathlib.Core.Path.{_≡_, refl, sym, _∙_}
-use mathlib.Core.List.{_++_, append-nil}
+use mathlib.Core.Path.{_≡_, refl}
+use mathlib.Core.List.{_++_}
 use Prim.Native.Nat.{_+_, _-_, _≤_}
 use lib.ListN.{length, take, replicate, length-set}
 use Rattle.sheet_stream.proofs.Laws.{zero-start, zero-next, zero-end}

@@ -1,5 +1,4 @@
 use mathlib.Core.Path.{ap, sym}
-use mathlib.Core.List.{List}
 use Prim.Native.Nat.{ℕ}
 use lib.ListN.{take}
 use lib.Seq.{length-take-le}
