@@ -10,10 +10,17 @@ abbrev μ-loop : tie.MeasureT-loop
 μ-loop input output counted₀ written₀ text₀ space₀ out₀ buf₀ h₀ turns₀ counted written text space out buf h turns = turns
 
 loop-less-2 : tie.Need-loop-less-2 Inv-loop μ-loop
-loop-less-2 c = omega (arith, c .before .before .before .before .before .before .before .before .before .before .before .before .before .before .before .before .before .before .before .before .before .before .before .before .before .before .loop-test .taken)
+loop-less-2 c =
+    let at-if2 = c .before .before .before .before .before .before .before in
+    let at-if1 = at-if2 .before .before .before .before .before .before in
+    let at-step = at-if1 .before .before .before .before .before .before in
+    omega (arith, at-step .before .before .before .before .before .before .before .loop-test .taken)
 
 loop-less-3 : tie.Need-loop-less-3 Inv-loop μ-loop
-loop-less-3 c = omega (arith, c .before .before .before .before .before .before .before .before .before .before .before .before .before .before .before .before .before .before .before .before .loop-test .taken)
+loop-less-3 c =
+    let at-if1 = c .before .before .before .before .before .before .before in
+    let at-step = at-if1 .before .before .before .before .before .before in
+    omega (arith, at-step .before .before .before .before .before .before .before .loop-test .taken)
 
 pub play-spec : {M : Type 1} → statement M
 play-spec =
