@@ -238,15 +238,35 @@ class Formatter:
             self.value(name, text, a, b)
 
 
-def play(out, flags, calls):
-    """Plays a run: its first refusal and its total or cursor."""
-    formatter, first = Formatter(out, flags), 0
-    for step in [out.check_cursor] + [lambda call=call: formatter.call(*call) for call in calls]:
+def answers_of(formatter, calls):
+    """Plays the calls of a run: the answer to each."""
+    answers = []
+    for call in calls:
         try:
-            step()
+            formatter.call(*call)
+            answers.append(0)
         except Refused as refused:
-            first = first or refused.args[0]
-    return f"{first} {out.number}"
+            answers.append(refused.args[0])
+    return answers
+
+
+def end_of(formatter, answers):
+    """The end of a run: its first refusal, its total or cursor, how many calls were done before that
+    refusal, and how many entries are open."""
+    refusals = [answer for answer in answers if answer]
+    try:
+        formatter.out.check_cursor()
+    except Refused as refused:
+        refusals.insert(0, refused.args[0])
+    done = next((place for place, answer in enumerate(answers) if answer), len(answers))
+    first = refusals[0] if refusals else 0
+    return f"{first} {formatter.out.number} {done} {len(formatter.entries)}"
+
+
+def play(out, flags, calls):
+    """Plays a run: its end."""
+    formatter = Formatter(out, flags)
+    return end_of(formatter, answers_of(formatter, calls))
 
 
 def written(flags, calls, size, cursor):
@@ -270,9 +290,32 @@ def show(flags, place, calls):
 
 def add(flags, length, calls):
     counter = Counter()
-    first = play(counter, flags, calls).split()[0]
-    second = 0 if counter.number + length <= TOP else 6
-    return f"{first} {second} {counter.number + (length if second == 0 else 0)}"
+    end = play(counter, flags, calls)
+    try:
+        counter.put(b".", length)
+        second = 0
+    except Refused as refused:
+        second = refused.args[0]
+    return f"{end} {second} {counter.number}"
+
+
+def each_counted(flags, total, calls):
+    """Counts a run call by call on from a total: for each call its answer, the total then and whether
+    that is 0; at the end how many entries are open, and the margin."""
+    counter = Counter(total)
+    formatter = Formatter(counter, flags)
+    for call in calls:
+        [answer] = answers_of(formatter, [call])
+        yield f"{answer} {counter.number} {int(counter.number == 0)}"
+    yield f"{len(formatter.entries)} {formatter.margin}"
+
+
+def each(out, flags, places, calls):
+    """Plays a run: its end, and the answers in as many places as there are, which held dots before."""
+    formatter = Formatter(out, flags)
+    answers = answers_of(formatter, calls)
+    stored = bytes(answers[:places]).ljust(places, b".")
+    return f"{end_of(formatter, answers)} {stored.hex().upper()}"
 
 
 def decimal(field, most=TOP):
@@ -305,6 +348,13 @@ def answer(line):
         return f"{name}: {play(Buffer(4, number), flags, calls)}"
     if word == "add":
         return f"{name}: {add(flags, number, calls)}"
+    if word == "calls":
+        return f"{name}: " + ", ".join(each_counted(flags, number, calls))
+    if word == "each":
+        if number > 160:
+            raise ValueError(line)
+        return (f"{name}: {each(Counter(), flags, number, calls)}, "
+                f"{each(Buffer(160, 0), flags, number, calls)}")
     raise ValueError(line)
 
 

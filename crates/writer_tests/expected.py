@@ -1,5 +1,5 @@
 #!/usr/bin/env python3
-"""Single writes by document 01, with Python's own UTF-8, integers and formats.
+"""Single writes and calls through the lent writer by document 01, with Python's own UTF-8, integers and formats.
 
 Reads the cases of writer_tests on standard input and prints what the program must print.
 """
@@ -139,6 +139,17 @@ def put_integer(buf, at, bits, x, base="dec", digits="upper", layout="plain"):
     return put(buf, at, DONE, body.encode())
 
 
+def truncated(buf, at, length, is_utf8):
+    """The answer and the cursor ('Beside the record')."""
+    if at > len(buf):
+        return BAD_CURSOR, at
+    if length > at:
+        return DONE, at
+    if is_utf8 and any(0x80 <= b <= 0xBF for b in buf[length:length + 1]):
+        return NOT_ON_BOUNDARY, at
+    return DONE, length
+
+
 # ---- the lines
 
 def call(name, fields, buf, at):
@@ -182,19 +193,26 @@ def from_custom_line(name, *fields):
 
 def truncate_line(name, *fields):
     buf, at, length = take(list(fields), text, number, number)
-    if at > len(buf):
-        plain = utf8 = (BAD_CURSOR, at)
-    elif length > at:
-        plain = utf8 = (DONE, at)
-    else:
-        continues = buf[length:length + 1] and 0x80 <= buf[length] <= 0xBF
-        plain, utf8 = (DONE, length), (NOT_ON_BOUNDARY, at) if continues else (DONE, length)
+    plain, utf8 = (truncated(buf, at, length, is_utf8) for is_utf8 in (False, True))
     return "{} {}, utf8: {} {}".format(*plain, *utf8)
+
+
+def write_then_truncate_line(name, *fields):
+    """The write at a cleared cursor; each truncation gets the cursor that the call before it left."""
+    buf, s, length, utf8_length = take(list(fields), text, text, number, number)
+    written, at, after = put_text(buf, 0, "str", False, s)
+    plain, at_plain = truncated(after, at, length, False)
+    utf8, at_utf8 = truncated(after, at_plain, utf8_length, True)
+    return f"{written}, truncate: {plain} {at_plain}, utf8: {utf8} {at_utf8} [{after.hex().upper()}]"
 
 
 def answer_to(line):
     fields = line.split(",")
-    kinds = {"from_custom": from_custom_line, "truncate": truncate_line}
+    kinds = {
+        "from_custom": from_custom_line,
+        "truncate": truncate_line,
+        "write_str_then_truncate": write_then_truncate_line,
+    }
     try:
         if fields[0] not in kinds and len(fields) < 3:
             raise Bad

@@ -12,9 +12,9 @@ use Rattle.str_writer.proofs.Splice.{splice-nil}
 use Rattle.agreement.specs.Call.{Place, Call, opens, place, value, sub, endsub, finish}
 use Rattle.agreement.specs.Ledger.{Open, building, within, Ledger, meets, apply, unlessMet, feed, ledger, fresh, placing, leaving, finishing, Permitted}
 use Rattle.agreement.specs.Model.{Mode, numberIn, counting, writing, Output, Entry, builder, outer, State, step, run, start, most}
-use Rattle.agreement.specs.Agreement.{AllDone, Has, here, there, Whole, AllWhole, Proper, definedText, written, Counted, Written, Demand3}
-use Rattle.agreement.proofs.Output.{capOf, codeOf, Fits, after, Kept, inside}
-use Rattle.agreement.proofs.Moves.{shape, Move, move-shown, run-kept}
+use Rattle.agreement.specs.Agreement.{AllDone, firstRefusal, Whole, AllWhole, Proper, definedText, counted, written, Counted, Written, Demand3}
+use Rattle.agreement.proofs.Output.{capOf, codeOf, Fits, after, Kept, inside, hold-code}
+use Rattle.agreement.proofs.Moves.{shape, Move, Uncut, whole-uncut, move-shown, run-kept}
 use Rattle.agreement.proofs.Track.{SomeHeld, Track, codes, follows, keeps, Clear, fits, passes}
 
 -- the ledger's text only grows
@@ -58,40 +58,62 @@ none-open m [] e h = h
 none-open m (builder k has g ∷ s) e h = let z : _≡_ {A = ℕ} 0 1 = cc in omega arith
 none-open m (outer f n ∷ s) e h = let z : _≡_ {A = ℕ} 0 1 = cc in omega arith
 
+-- the first refusal is 0 where every answer is, and only there
+pub done-first : (r : List ℕ) → AllDone r → firstRefusal r ≡ 0
+done-first [] d = refl
+done-first (x ∷ r) d = rw (d .0) (done-first r (d .1))
+
+pub first-done : (r : List ℕ) → firstRefusal r ≡ 0 → AllDone r
+first-done [] q = tt
+first-done (zero ∷ r) q = (refl, first-done r q)
+first-done (suc a ∷ r) q = absurd (omega arith)
+
+-- the entries that are open are those of the ledger
+shape-open : (s : List Entry) → shape s ≡ [] → s ≡ []
+shape-open [] e = refl
+shape-open (builder k has g ∷ s) e = absurd (let z : _≡_ {A = ℕ} 0 1 = cc in omega arith)
+shape-open (outer f n ∷ s) e = absurd (let z : _≡_ {A = ℕ} 0 1 = cc in omega arith)
+
 module _ (m₀ : Mode) (b₀ : List ℕ) where
-  move : (F : State) (L : Ledger) (c : Call) → Track m₀ b₀ F L → Whole c → meets L c ≡ 0 → Move (L .text) F c (step F c) (feed L c)
-  move F L c T w p =
+  pub move-uncut : (F : State) (L : Ledger) (c : Call) → Track m₀ b₀ F L → Uncut (F .output .mode) c → meets L c ≡ 0 → Move (L .text) F c (step F c) (feed L c)
+  move-uncut F L c T w p =
       subst (λ (l : Ledger). meets l c ≡ 0 → Move (l .text) F c (step F c) (feed l c)) (sym (T .shows))
       (move-shown (L .text) (F .output) (F .flags) (F .margin) (F .stack) c (inside m₀ b₀ (F .output .mode) (F .output .bytes) (T .kept)) (T .margin) w) p
 
+  move : (F : State) (L : Ledger) (c : Call) → Track m₀ b₀ F L → Whole c → meets L c ≡ 0 → Move (L .text) F c (step F c) (feed L c)
+  move F L c T w p = move-uncut F L c T (whole-uncut (F .output .mode) c w) p
+
+  pub pile-shape : (F : State) (L : Ledger) → Track m₀ b₀ F L → L .pile ≡ shape (F .stack)
+  pile-shape F L T = ap (λ (l : Ledger). l .pile) (T .shows)
+
   -- a refusal that is held is answered before all is closed
   held-run : (cs : List Call) (F : State) (L : Ledger) → Track m₀ b₀ F L → SomeHeld m₀ (F .stack)
-      → AllWhole cs → Permitted L cs → ledger L cs .pile ≡ [] → Has (codeOf m₀) (run F cs .answers)
-  held-run [] F L T h w p z = absurd (none-open m₀ (F .stack) (sym (ap (λ (l : Ledger). l .pile) (T .shows)) ∙ z) h)
+      → AllWhole cs → Permitted L cs → ledger L cs .pile ≡ [] → firstRefusal (run F cs .answers) ≡ codeOf m₀
+  held-run [] F L T h w p z = absurd (none-open m₀ (F .stack) (sym (pile-shape F L T) ∙ z) h)
   held-run (c ∷ cs) F L T h w p z = go (codes m₀ b₀ mv T) (λ t g. held-run cs (step F c .state) (feed L c) t g (w .1) (p .1) z)
     where
       mv : Move (L .text) F c (step F c) (feed L c)
       mv = move F L c T (w .0) (p .0)
 
       go : (step F c .answer ≡ 0) ⊎ (step F c .answer ≡ codeOf m₀)
-          → (Track m₀ b₀ (step F c .state) (feed L c) → SomeHeld m₀ (step F c .state .stack) → Has (codeOf m₀) (run (step F c .state) cs .answers))
-          → Has (codeOf m₀) (run F (c ∷ cs) .answers)
-      go (inl q) ih = there (ih (follows m₀ b₀ mv T q) (keeps m₀ b₀ mv q h))
-      go (inr q) ih = here q
+          → (Track m₀ b₀ (step F c .state) (feed L c) → SomeHeld m₀ (step F c .state .stack) → firstRefusal (run (step F c .state) cs .answers) ≡ codeOf m₀)
+          → firstRefusal (run F (c ∷ cs) .answers) ≡ codeOf m₀
+      go (inl q) ih = rw q (ih (follows m₀ b₀ mv T q) (keeps m₀ b₀ mv q h))
+      go (inr q) ih = rw q (hold-code m₀ _)
 
   fits-run : (cs : List Call) (F : State) (L : Ledger) → Track m₀ b₀ F L → Clear m₀ b₀ F (L .text)
       → AllWhole cs → Permitted L cs → Fits m₀ b₀ (ledger L cs .text)
-      → AllDone (run F cs .answers) × (run F cs .state .output ≡ after m₀ b₀ (ledger L cs .text))
-  fits-run [] F L T G w p h = (tt, G .output)
+      → AllDone (run F cs .answers) × (run F cs .state .output ≡ after m₀ b₀ (ledger L cs .text)) × (ledger L cs .pile ≡ shape (run F cs .state .stack))
+  fits-run [] F L T G w p h = (tt, G .output, pile-shape F L T)
   fits-run (c ∷ cs) F L T G w p h =
       let mv = move F L c T (w .0) (p .0) in
       let g = fits m₀ b₀ mv T G (omega (arith, ledger-grows (feed L c) cs)) in
       let r = fits-run cs (step F c .state) (feed L c) (follows m₀ b₀ mv T (g .0)) (g .1) (w .1) (p .1) h in
-      ((g .0, r .0), r .1)
+      ((g .0, r .0), r .1, r .2)
 
   passes-run : (cs : List Call) (F : State) (L : Ledger) → Track m₀ b₀ F L → Clear m₀ b₀ F (L .text) → Fits m₀ b₀ (L .text)
       → AllWhole cs → Permitted L cs → ledger L cs .pile ≡ [] → capOf m₀ b₀ < numberIn m₀ + length (ledger L cs .text)
-      → Has (codeOf m₀) (run F cs .answers)
+      → firstRefusal (run F cs .answers) ≡ codeOf m₀
   passes-run [] F L T G k w p z h = absurd (omega arith)
   passes-run (c ∷ cs) F L T G k w p z h =
       go (decLe (numberIn m₀ + length (feed L c .text)) (capOf m₀ b₀))
@@ -100,49 +122,48 @@ module _ (m₀ : Mode) (b₀ : List ℕ) where
       mv : Move (L .text) F c (step F c) (feed L c)
       mv = move F L c T (w .0) (p .0)
 
-      stuck : (step F c .answer ≡ codeOf m₀) ⊎ ((step F c .answer ≡ 0) × SomeHeld m₀ (step F c .state .stack)) → Has (codeOf m₀) (run F (c ∷ cs) .answers)
-      stuck (inl q) = here q
-      stuck (inr q) = there (held-run cs (step F c .state) (feed L c) (follows m₀ b₀ mv T (q .0)) (q .1) (w .1) (p .1) z)
+      stuck : (step F c .answer ≡ codeOf m₀) ⊎ ((step F c .answer ≡ 0) × SomeHeld m₀ (step F c .state .stack)) → firstRefusal (run F (c ∷ cs) .answers) ≡ codeOf m₀
+      stuck (inl q) = rw q (hold-code m₀ _)
+      stuck (inr q) = rw (q .0) (held-run cs (step F c .state) (feed L c) (follows m₀ b₀ mv T (q .0)) (q .1) (w .1) (p .1) z)
 
       go : Dec (Fits m₀ b₀ (feed L c .text))
           → (Track m₀ b₀ (step F c .state) (feed L c) → Clear m₀ b₀ (step F c .state) (feed L c .text) → Fits m₀ b₀ (feed L c .text)
-          → Has (codeOf m₀) (run (step F c .state) cs .answers))
-          → Has (codeOf m₀) (run F (c ∷ cs) .answers)
+          → firstRefusal (run (step F c .state) cs .answers) ≡ codeOf m₀)
+          → firstRefusal (run F (c ∷ cs) .answers) ≡ codeOf m₀
       go (yes q) ih =
           let g = fits m₀ b₀ mv T G q in
-          there (ih (follows m₀ b₀ mv T (g .0)) (g .1) q)
+          rw (g .0) (ih (follows m₀ b₀ mv T (g .0)) (g .1) q)
       go (no q) ih = stuck (passes m₀ b₀ mv T G k (omega arith))
-
-not-done : (a : ℕ) (r : List ℕ) → 0 < a → Has a r → AllDone r → ⊥
-not-done a r h (here e) d = omega (arith, d .0)
-not-done a r h (there k) d = not-done a _ h k (d .1)
 
 after-nil : (m : Mode) (b : List ℕ) → record { mode = m; bytes = b } ≡ after m b []
 after-nil (counting n) b = simp add-zero
 after-nil (writing c) b = rw (splice-nil b c, add-zero)
 
-kept-start : (m : Mode) (b : List ℕ) → numberIn m ≤ capOf m b → Kept m b m b
+pub kept-start : (m : Mode) (b : List ℕ) → numberIn m ≤ capOf m b → Kept m b m b
 kept-start (counting n) b h = tt
 kept-start (writing c) b h = (le-refl c, h, refl, refl)
 
+module _ (f : FormattingFlags) (m : Mode) (b : List ℕ) (h : numberIn m ≤ capOf m b) where
+  pub track : Track m b (start m b f) (fresh f)
+  track = record { kept = kept-start m b h; shows = refl; margin = refl; margins = tt; held = tt }
+
+  pub clear : Clear m b (start m b f) []
+  clear = record { output = after-nil m b; none = tt }
+
 module _ (f : FormattingFlags) (cs : List Call) (P : Proper f cs) where
   module _ (m : Mode) (b : List ℕ) (h : numberIn m ≤ capOf m b) where
-    track : Track m b (start m b f) (fresh f)
-    track = record { kept = kept-start m b h; shows = refl; margin = refl; margins = tt; held = tt }
+    all-done : Fits m b (definedText f cs) → AllDone (run (start m b f) cs .answers) × (run (start m b f) cs .state .output ≡ after m b (definedText f cs)) × (run (start m b f) cs .state .stack ≡ [])
+    all-done k =
+        let r = fits-run m b cs (start m b f) (fresh f) (track f m b h) (clear f m b h) (P .whole) (P .permitted) k in
+        (r .0, r .1, shape-open _ (sym (r .2) ∙ P .closed))
 
-    clear : Clear m b (start m b f) []
-    clear = record { output = after-nil m b; none = tt }
+    first-refused : capOf m b < numberIn m + length (definedText f cs) → firstRefusal (run (start m b f) cs .answers) ≡ codeOf m
+    first-refused k = passes-run m b cs (start m b f) (fresh f) (track f m b h) (clear f m b h) (omega arith) (P .whole) (P .permitted) (P .closed) k
 
-    all-done : Fits m b (definedText f cs) → AllDone (run (start m b f) cs .answers) × (run (start m b f) cs .state .output ≡ after m b (definedText f cs))
-    all-done k = fits-run m b cs (start m b f) (fresh f) track clear (P .whole) (P .permitted) k
-
-    some-refused : capOf m b < numberIn m + length (definedText f cs) → Has (codeOf m) (run (start m b f) cs .answers)
-    some-refused k = passes-run m b cs (start m b f) (fresh f) track clear (omega arith) (P .whole) (P .permitted) (P .closed) k
-
-  counted-agrees : length (definedText f cs) ≤ most → Counted f cs
-  counted-agrees h =
-      let r = all-done (counting 0) [] (omega arith) (omega arith) in
-      record { done = r .0; total = ap (λ (d : Output). d .mode) (r .1) ∙ ap counting (zero-add (length (definedText f cs))) }
+  counted-agrees : length (definedText f cs) ≤ most → (b : List ℕ) → Counted f cs b
+  counted-agrees h b =
+      let r = all-done (counting 0) b (omega arith) (omega arith) in
+      record { done = r .0; output = r .1 ∙ rw (zero-add (length (definedText f cs))); closed = r .2 }
 
   written-agrees : (b : List ℕ) (p : ℕ) → p ≤ length b → Written f cs b p
   written-agrees b p h =
@@ -150,14 +171,15 @@ module _ (f : FormattingFlags) (cs : List Call) (P : Proper f cs) where
         exactly = (λ d. done-fits d (decLe (p + length (definedText f cs)) (length b)), λ k. all-done (writing p) b h k .0);
         cursor = λ k. ap (λ (d : Output). d .mode) (all-done (writing p) b h k .1);
         bytes = λ k. ap (λ (d : Output). d .bytes) (all-done (writing p) b h k .1);
-        refused = some-refused (writing p) b h;
-        before = λ k. kept .1;
+        closed = λ k. all-done (writing p) b h k .2;
+        refused = first-refused (writing p) b h;
+        before = kept .1;
         size = kept .0;
       }
     where
       done-fits : AllDone (written f cs b p .answers) → Dec (p + length (definedText f cs) ≤ length b) → p + length (definedText f cs) ≤ length b
       done-fits d (yes k) = k
-      done-fits d (no k) = absurd (not-done 1 (written f cs b p .answers) (omega arith) (some-refused (writing p) b h (omega arith)) d)
+      done-fits d (no k) = absurd (omega (arith, first-refused (writing p) b h (omega arith), done-first (written f cs b p .answers) d))
 
       kept-bytes : (m : Mode) (c : List ℕ) → Kept (writing p) b m c → (length c ≡ length b) × (take p c ≡ take p b)
       kept-bytes (counting n) c k = absurd k

@@ -48,10 +48,10 @@ abbrev pub nested : ℕ → List Call
 nested zero = opens ListKind [] ∷ []
 nested (suc n) = opens ListKind [] ∷ place entry ∷ nested n
 
-pub open-64 : counted defaultFlags (nested 63) .answers ≡ replicate 127 0
+pub open-64 : counted defaultFlags (nested 63) [] .answers ≡ replicate 127 0
 unfolding continues
 open-64 = refl
 
-pub open-65 : counted defaultFlags (nested 64) .answers ≡ replicate 128 0 ++ (7 ∷ [])
+pub open-65 : counted defaultFlags (nested 64) [] .answers ≡ replicate 128 0 ++ (7 ∷ [])
 unfolding continues
 open-65 = refl

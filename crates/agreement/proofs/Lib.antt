@@ -4,4 +4,5 @@ pub mod Keeping
 pub mod Moves
 pub mod Track
 pub mod Agree
+pub mod Counting
 pub mod Known

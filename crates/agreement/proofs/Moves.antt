@@ -36,12 +36,12 @@ shape (outer f m ∷ s) = within f ∷ shape s
 abbrev pub shown : List ℕ → State → Ledger
 shown t F = record { text = t; flags = F .flags; pile = shape (F .stack) }
 
-ready-shape : (s : List Entry) → ready (shape s) ≡ readyTop s
+pub ready-shape : (s : List Entry) → ready (shape s) ≡ readyTop s
 ready-shape [] = refl
 ready-shape (builder k has h ∷ s) = refl
 ready-shape (outer f m ∷ s) = refl
 
-length-shape : (s : List Entry) → length (shape s) ≡ length s
+pub length-shape : (s : List Entry) → length (shape s) ≡ length s
 length-shape [] = refl
 length-shape (builder k has h ∷ s) = ap suc (length-shape s)
 length-shape (outer f m ∷ s) = ap suc (length-shape s)
@@ -85,9 +85,26 @@ pub data Move (t : List ℕ) : State → Call → Out → Ledger → Type 0 wher
       Move t (st d f m (builder k has (suc h) ∷ s)) finish (out (suc h) d f m s)
       (lg (t ++ closing k has (f .«is_alternate») (marginOf (shape s))) f (shape s))
 
+-- a call that cuts no string, as far as the mode tests it
+abbrev pub Uncut : Mode → Call → Type 0
+Uncut m (opens k name) = Unit {0}
+Uncut m (place x) = Unit {0}
+Uncut m (value v) = cutIn m (cutNumber v) ≡ 0
+Uncut m (sub f) = Unit {0}
+Uncut m endsub = Unit {0}
+Uncut m finish = Unit {0}
+
 no-cut : (m : Mode) → cutIn m 0 ≡ 0
 no-cut (counting n) = refl
 no-cut (writing c) = refl
+
+pub whole-uncut : (m : Mode) (c : Call) → Whole c → Uncut m c
+whole-uncut m (opens k name) w = tt
+whole-uncut m (place x) w = tt
+whole-uncut m (value v) w = rw w (no-cut m)
+whole-uncut m (sub f) w = tt
+whole-uncut m endsub w = tt
+whole-uncut m finish w = tt
 
 module _ (t : List ℕ) (d : Output) (f : FormattingFlags) (m : ℕ) where
   move-place : (s : List Entry) (x : Place) → meets (shown t (st d f m s)) (place x) ≡ 0
@@ -109,7 +126,7 @@ module _ (t : List ℕ) (d : Output) (f : FormattingFlags) (m : ℕ) where
   move-finish (builder k has (suc h) ∷ s) e = answer-held d f m s k has h
   move-finish (outer g n ∷ s) e = absurd (omega arith)
 
-  move-in : (s : List Entry) (c : Call) → m ≡ marginOf (shape s) → Whole c → meets (shown t (st d f m s)) c ≡ 0
+  move-in : (s : List Entry) (c : Call) → m ≡ marginOf (shape s) → Uncut (d .mode) c → meets (shown t (st d f m s)) c ≡ 0
       → Move t (st d f m s) c (stepIn (st d f m s) c) (feed (shown t (st d f m s)) c)
   move-in s (opens k name) g w e =
       let e2 : openFault (readyTop s) (length s) m (nameOf k name) ≡ 0 = rw (ready-shape s, length-shape s, ← g) at e in
@@ -117,7 +134,7 @@ module _ (t : List ℕ) (d : Output) (f : FormattingFlags) (m : ℕ) where
   move-in s (place x) g w e = move-place s x e
   move-in s (value v) g w e =
       let e2 : cond (readyTop s) (valueFault v) 8 ≡ 0 = rw (ready-shape s) at e in
-      let e3 : hold (cond (readyTop s) (valueFault v) 8) (cutIn (d .mode) (cutNumber v)) ≡ 0 = rw (e2, w) (no-cut (d .mode)) in
+      let e3 : hold (cond (readyTop s) (valueFault v) 8) (cutIn (d .mode) (cutNumber v)) ≡ 0 = rw (e2, w) in
       rw (e, e3) (put-value d f m s v)
   move-in s (sub h) g w e =
       let e2 : subFault (readyTop s) (length s) ≡ 0 = rw (ready-shape s, length-shape s) at e in
@@ -125,6 +142,6 @@ module _ (t : List ℕ) (d : Output) (f : FormattingFlags) (m : ℕ) where
   move-in s endsub g w e = move-endsub s e
   move-in s finish g w e = move-finish s e
 
-  pub move-shown : (s : List Entry) (c : Call) → beyond (d .mode) (d .bytes) ≡ 0 → m ≡ marginOf (shape s) → Whole c → meets (shown t (st d f m s)) c ≡ 0
+  pub move-shown : (s : List Entry) (c : Call) → beyond (d .mode) (d .bytes) ≡ 0 → m ≡ marginOf (shape s) → Uncut (d .mode) c → meets (shown t (st d f m s)) c ≡ 0
       → Move t (st d f m s) c (step (st d f m s) c) (feed (shown t (st d f m s)) c)
   move-shown s c z g w e = rw z (move-in s c g w e)

@@ -6,6 +6,7 @@ use Prim.Native.Nat.{ℕ}
 use lib.Dec.{leb, ltb}
 use lib.ListN.{replicate}
 use Rattle.error.specs.declared.Answer.{Answer}
+use Rattle.error.specs.declared.Answer.the-variants.{Done, NotUtf8, TooDeep, WrongCall}
 use Rattle.error.specs.Answer.{numberOf}
 use Rattle.formatting.specs.declared.flags.FormattingFlags.{FormattingFlags}
 use Rattle.utf8.specs.Utf8.{wellFormed}
@@ -105,7 +106,7 @@ spaces n = replicate n 32
 
 -- 'The answer to a call': the number of a fault, 0 where none is met
 abbrev pub faultNumber : Option Answer → ℕ
-faultNumber none = 0
+faultNumber none = numberOf Done
 faultNumber (some a) = numberOf a
 
 -- 'The answer to a call', 2, 4 and 5: what a value's input meets
@@ -118,16 +119,17 @@ cutNumber v = faultNumber (cutFault v)
 
 -- 'The answer to a call', 4: a name that is not UTF-8
 abbrev pub nameFault : List ℕ → ℕ
-nameFault s = cond (wellFormed s) 0 4
+nameFault s = cond (wellFormed s) (numberOf Done) (numberOf NotUtf8)
 
 -- 'The answer to a call', opening a builder: 8, then 7 with 64 entries open or a margin above 65,531, then 4
 abbrev pub openFault : Bool → ℕ → ℕ → List ℕ → ℕ
-openFault ready depth margin name = cond ready (cond (leb 64 depth) 7 (cond (ltb 65531 margin) 7 (nameFault name))) 8
+openFault ready depth margin name =
+    cond ready (cond (leb 64 depth) (numberOf TooDeep) (cond (ltb 65531 margin) (numberOf TooDeep) (nameFault name))) (numberOf WrongCall)
 
 -- 'The answer to a call', a field or an entry: 8 where it is of the wrong kind, then 4
 abbrev pub placeFault : Place → Kind → ℕ
-placeFault x k = cond (suits x k) (nameFault (placeName x)) 8
+placeFault x k = cond (suits x k) (nameFault (placeName x)) (numberOf WrongCall)
 
 -- 'The answer to a call', opening a sub-formatter: 8, then 7 with 64 entries open
 abbrev pub subFault : Bool → ℕ → ℕ
-subFault ready depth = cond ready (cond (leb 64 depth) 7 0) 8
+subFault ready depth = cond ready (cond (leb 64 depth) (numberOf TooDeep) (numberOf Done)) (numberOf WrongCall)

@@ -4,6 +4,8 @@ use mathlib.Core.Path.{_≡_}
 use mathlib.Core.List.{List, [], _∷_, _++_}
 use Prim.Native.Nat.{ℕ, zero, suc, _*_}
 use lib.ListN.{length}
+use Rattle.error.specs.declared.Answer.the-variants.{Done, WrongCall}
+use Rattle.error.specs.Answer.{numberOf}
 use Rattle.formatting.specs.declared.flags.FormattingFlags.{FormattingFlags}
 use Rattle.str_writer.specs.Value.{Value, textOf}
 use Rattle.agreement.specs.declared.Kind.{Kind}
@@ -38,27 +40,27 @@ ready (within f ∷ p) = true
 
 -- 'A nested record', 8: a field or entry with no builder innermost, or of the wrong kind; then 4
 abbrev pub placeMeets : Place → List Open → ℕ
-placeMeets x [] = 8
+placeMeets x [] = numberOf WrongCall
 placeMeets x (building k h ∷ p) = placeFault x k
-placeMeets x (within f ∷ p) = 8
+placeMeets x (within f ∷ p) = numberOf WrongCall
 
 -- 'A nested record', 8: closing a sub-formatter that is not innermost
 abbrev pub endsubMeets : List Open → ℕ
-endsubMeets [] = 8
-endsubMeets (building k h ∷ p) = 8
-endsubMeets (within f ∷ p) = 0
+endsubMeets [] = numberOf WrongCall
+endsubMeets (building k h ∷ p) = numberOf WrongCall
+endsubMeets (within f ∷ p) = numberOf Done
 
 -- 'A nested record', 8: a finish with no builder innermost
 abbrev pub finishMeets : List Open → ℕ
-finishMeets [] = 8
-finishMeets (building k h ∷ p) = 0
-finishMeets (within f ∷ p) = 8
+finishMeets [] = numberOf WrongCall
+finishMeets (building k h ∷ p) = numberOf Done
+finishMeets (within f ∷ p) = numberOf WrongCall
 
 -- 'ledger': the 2, 4, 5, 7 or 8 that a call meets, 7 and 8 judged by pile and margin, else 0
 abbrev pub meets : Ledger → Call → ℕ
 meets L (opens k name) = openFault (ready (L .pile)) (length (L .pile)) (marginOf (L .pile)) (nameOf k name)
 meets L (place x) = placeMeets x (L .pile)
-meets L (value v) = cond (ready (L .pile)) (valueFault v) 8
+meets L (value v) = cond (ready (L .pile)) (valueFault v) (numberOf WrongCall)
 meets L (sub f) = subFault (ready (L .pile)) (length (L .pile))
 meets L endsub = endsubMeets (L .pile)
 meets L finish = finishMeets (L .pile)

@@ -4,6 +4,7 @@ use mathlib.Core.List.{List, [], _∷_, _++_}
 use Prim.Native.Nat.{ℕ, zero, suc, _+_, _-_, _^_}
 use lib.Dec.{leb, ltb}
 use lib.ListN.{length}
+use Rattle.error.specs.declared.Answer.the-variants.{Done, CountTooLarge, WrongCall, BadCursor}
 use Rattle.error.specs.Answer.{numberOf}
 use Rattle.formatting.specs.declared.flags.FormattingFlags.{FormattingFlags}
 use Rattle.str_writer.specs.Value.{Value, textOf, leaves}
@@ -48,7 +49,7 @@ wrote o = to (writing (o .written .at)) (o .bytes) (numberOf (o .written .answer
 
 -- 'A nested record': a counting run adds the length of a piece, a writing run writes it; l is what a refused piece leaves in the room that there is
 abbrev pub putIn : Mode → List ℕ → List ℕ → (ℕ → List ℕ) → PieceOutcome
-putIn (counting n) b t l = cond (ltb most (n + length t)) (to (counting n) b 6) (to (counting (n + length t)) b 0)
+putIn (counting n) b t l = cond (ltb most (n + length t)) (to (counting n) b (numberOf CountTooLarge)) (to (counting (n + length t)) b (numberOf Done))
 putIn (writing c) b t l = wrote (placedText b c t (l (length b - c)))
 
 -- 'The answer to a call': 1 on a single write keeps the cursor and all bytes
@@ -66,7 +67,7 @@ hold (suc h) a = suc h
 
 -- 'A nested record', opening, field or entry: each piece is tried even after one is refused
 abbrev pub tries : Output → List (List ℕ) → PieceOutcome
-tries d [] = record { answer = 0; output = d }
+tries d [] = record { answer = numberOf Done; output = d }
 tries d (t ∷ ts) =
     let a = put d t in
     let r = tries (a .output) ts in
@@ -79,7 +80,7 @@ goOn (suc a) r next = r
 
 -- 'A nested record', finish: stopping at the first refusal
 abbrev pub stops : Output → List (List ℕ) → PieceOutcome
-stops d [] = record { answer = 0; output = d }
+stops d [] = record { answer = numberOf Done; output = d }
 stops d (t ∷ ts) =
     let a = put d t in
     let r = stops (a .output) ts in
@@ -136,39 +137,39 @@ guard (suc a) F o = record { answer = suc a; state = F }
 
 -- 'A nested record', opening a builder: raise the margin by 4 even if refused; answer 0; the builder holds the refusal
 abbrev pub opened : State → Kind → PieceOutcome → Out
-opened F k r = record { answer = 0; state = record { output = r .output; flags = F .flags; margin = F .margin + 4; stack = builder k false (r .answer) ∷ F .stack } }
+opened F k r = record { answer = numberOf Done; state = record { output = r .output; flags = F .flags; margin = F .margin + 4; stack = builder k false (r .answer) ∷ F .stack } }
 
 -- 'A nested record', field or entry: answer 0; the builder holds the refusal and now has a field
 abbrev pub placeAt : State → Place → List Entry → Out
-placeAt F x [] = record { answer = 8; state = F }
+placeAt F x [] = record { answer = numberOf WrongCall; state = F }
 placeAt F x (builder k has h ∷ s) =
     let r = tries (F .output) (placePieces k has (F .flags .«is_alternate») (F .margin) x) in
     guard (placeFault x k) F
     record {
-      answer = 0;
+      answer = numberOf Done;
       state = record { output = r .output; flags = F .flags; margin = F .margin; stack = builder k true (hold h (r .answer)) ∷ s };
     }
-placeAt F x (outer f m ∷ s) = record { answer = 8; state = F }
+placeAt F x (outer f m ∷ s) = record { answer = numberOf WrongCall; state = F }
 
 -- 'A nested record', sub-formatters: on closing, the outer flags and margin return
 abbrev pub endsubAt : State → List Entry → Out
-endsubAt F [] = record { answer = 8; state = F }
-endsubAt F (builder k has h ∷ s) = record { answer = 8; state = F }
-endsubAt F (outer f m ∷ s) = record { answer = 0; state = record { output = F .output; flags = f; margin = m; stack = s } }
+endsubAt F [] = record { answer = numberOf WrongCall; state = F }
+endsubAt F (builder k has h ∷ s) = record { answer = numberOf WrongCall; state = F }
+endsubAt F (outer f m ∷ s) = record { answer = numberOf Done; state = record { output = F .output; flags = f; margin = m; stack = s } }
 
--- 'A nested record', finish: the builder closes. If it holds a refusal, answer that, margin not lowered. Otherwise lower it by 4 and write the closing
+-- 'A nested record', finish: the builder closes. If it holds a refusal, answer that, margin not lowered. Otherwise lower it by 4, a made-up one below 4 to 0, and write the closing
 abbrev pub finishAt : State → List Entry → Out
-finishAt F [] = record { answer = 8; state = F }
+finishAt F [] = record { answer = numberOf WrongCall; state = F }
 finishAt F (builder k has zero ∷ s) =
     let r = stops (F .output) (closePieces k has (F .flags .«is_alternate») (F .margin - 4)) in
     record { answer = r .answer; state = record { output = r .output; flags = F .flags; margin = F .margin - 4; stack = s } }
 finishAt F (builder k has (suc h) ∷ s) =
     record { answer = suc h; state = record { output = F .output; flags = F .flags; margin = F .margin; stack = s } }
-finishAt F (outer f m ∷ s) = record { answer = 8; state = F }
+finishAt F (outer f m ∷ s) = record { answer = numberOf WrongCall; state = F }
 
 -- 'The answer to a call', 3: writing only; a counting run does not test boundaries
 abbrev pub cutIn : Mode → ℕ → ℕ
-cutIn (counting n) c = 0
+cutIn (counting n) c = numberOf Done
 cutIn (writing p) c = c
 
 -- 'The answer to a call', order: 8, 7, then 2, 4 or 5, then 3, then 6 or 1
@@ -179,18 +180,18 @@ stepIn F (opens k name) =
 stepIn F (place x) = placeAt F x (F .stack)
 stepIn F (value v) =
     let r = putValue (F .output) (F .flags) v in
-    guard (hold (cond (readyTop (F .stack)) (valueFault v) 8) (cutIn (F .output .mode) (cutNumber v))) F
+    guard (hold (cond (readyTop (F .stack)) (valueFault v) (numberOf WrongCall)) (cutIn (F .output .mode) (cutNumber v))) F
     record { answer = r .answer; state = record { output = r .output; flags = F .flags; margin = F .margin; stack = F .stack } }
 stepIn F (sub f) =
     guard (subFault (readyTop (F .stack)) (length (F .stack))) F
-    record { answer = 0; state = record { output = F .output; flags = f; margin = F .margin; stack = outer (F .flags) (F .margin) ∷ F .stack } }
+    record { answer = numberOf Done; state = record { output = F .output; flags = f; margin = F .margin; stack = outer (F .flags) (F .margin) ∷ F .stack } }
 stepIn F endsub = endsubAt F (F .stack)
 stepIn F finish = finishAt F (F .stack)
 
 -- 'The answer to a call', 9: the cursor given exceeds the buffer's length
 abbrev pub beyond : Mode → List ℕ → ℕ
-beyond (counting n) b = 0
-beyond (writing c) b = cond (leb c (length b)) 0 9
+beyond (counting n) b = numberOf Done
+beyond (writing c) b = cond (leb c (length b)) (numberOf Done) (numberOf BadCursor)
 
 -- 'The answer to a call', order: 9 before all
 abbrev pub step : State → Call → Out

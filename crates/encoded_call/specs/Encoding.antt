@@ -6,7 +6,9 @@ use Prim.Native.Nat.{ℕ, zero, suc, _-_, _/_, _%_, _^_}
 use lib.Dec.{leb, ltb, eqb}
 use lib.IntN.{ℤ, pos, negsuc}
 use lib.ListN.{length, take, drop}
-use Rattle.formatting.specs.FlagsAsNumber.{flagsOf}
+use Rattle.error.specs.declared.Answer.the-variants.{WrongCall}
+use Rattle.error.specs.Answer.{numberOf}
+use Rattle.formatting.specs.FlagsAsNumber.{areFlags, flagsOf}
 use Rattle.agreement.specs.declared.Kind.the-variants.{Struct, Tuple, Set}
 use Rattle.agreement.specs.declared.Kind.the-variants as kind
 use Rattle.agreement.specs.Call.{Call, opens, place, value, sub, endsub, finish}
@@ -78,7 +80,7 @@ opAt o a b =
     (cond (eqb o 5) (Place Item)
     (cond (eqb o 6) (Place place-kind.Entry)
     (cond (eqb o 7) Finish
-    (cond (eqb o 8) (cond (ltb a 12) (Sub (flagsOf a)) Nothing)
+    (cond (eqb o 8) (cond (areFlags a) (Sub (flagsOf a)) Nothing)
     (cond (eqb o 9) EndSub
     (valueAt o a b))))))))))
 
@@ -105,7 +107,7 @@ decode (o ∷ i ∷ n ∷ []) t = []
 decode (o ∷ i ∷ n ∷ a ∷ []) t = []
 decode (o ∷ i ∷ n ∷ a ∷ b ∷ rest) t = callAt o i n a b t ∷ decode rest t
 
--- Document 01, 'The answer to a call', order: 9 before all; what is no call meets 8 and changes nothing
+-- Document 01, 'The answer to a call', order: 9 before all; docs/DECISIONS.md, 'The formatter': what is no call meets 8 and changes nothing
 abbrev pub stepOr : State → Option Call → Out
 stepOr F (some c) = step F c
-stepOr F none = guard (beyond (F .output .mode) (F .output .bytes)) F (record { answer = 8; state = F })
+stepOr F none = guard (beyond (F .output .mode) (F .output .bytes)) F (record { answer = numberOf WrongCall; state = F })

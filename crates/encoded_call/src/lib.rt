@@ -154,7 +154,8 @@ fn value_op(o: u64, a: u64, b: u64) -> Op
     Op::Nothing
 }
 
-fn op_at(o: u64, a: u64, b: u64) -> Op
+// What the first word of a call asks for, with the two numbers that the call has.
+pub fn op_at(o: u64, a: u64, b: u64) -> Op
     ensures { λ r. ⌜ r ≡ opAt o a b ⌝ }
 {
     if o == 0 {

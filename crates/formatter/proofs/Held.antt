@@ -1,4 +1,4 @@
--- What a builder holds is below 8: a piece is refused with 1 or 6, or not at all.
+-- What a builder holds is nothing, 1 or 6: a piece is refused with 1 or 6, or not at all.
 use mathlib.Core.Bool.{Bool, true, false, cond}
 use mathlib.Core.Path.{_≡_, refl, ap}
 use mathlib.Core.List.{List, [], _∷_}
@@ -15,48 +15,57 @@ use Rattle.agreement.specs.declared.Entry.the-variants.{Builder as builder, Out
 use Rattle.agreement.specs.Model.{Mode, counting, writing, Output, PieceOutcome, to, most, wrote, putIn, put, hold, tries}
 use Rattle.writer_backend.specs.Pieces.{tryAll}
 use Rattle.writer_backend.proofs.Sequence.{tried}
-use Rattle.formatter.specs.Entries.{byTag, entryOf}
+use Rattle.formatter.specs.Entries.{heldOf, byTag, entryOf}
 
-put-below : (d : Output) (t : List ℕ) → put d t .answer < 8
+-- a number that reads as the refusal that it is
+abbrev Refusal : ℕ → Type 0
+Refusal a = heldOf a ≡ a
+
+put-refusal : (d : Output) (t : List ℕ) → Refusal (put d t .answer)
 unfolding placed
-put-below d t = by-mode (d .mode)
+put-refusal d t = by-mode (d .mode)
   where
-    counted : (x : Bool) (n m : ℕ) → cond x (to (counting n) (d .bytes) 6) (to (counting m) (d .bytes) 0) .answer < 8
-    counted true n m = omega arith
-    counted false n m = omega arith
+    counted : (x : Bool) (n m : ℕ) → Refusal (cond x (to (counting n) (d .bytes) 6) (to (counting m) (d .bytes) 0) .answer)
+    counted true n m = refl
+    counted false n m = refl
 
-    written : (x : Bool) (o p : Written) (b c : List ℕ) → o .answer ≡ NotEnoughSpace → p .answer ≡ Done → wrote (cond x (outcome o b) (outcome p c)) .answer < 8
-    written true o p b c e f = rw e (omega arith)
-    written false o p b c e f = rw f (omega arith)
+    written : (x : Bool) (o p : Written) (b c : List ℕ) → o .answer ≡ NotEnoughSpace → p .answer ≡ Done → Refusal (wrote (cond x (outcome o b) (outcome p c)) .answer)
+    written true o p b c e f = rw e
+    written false o p b c e f = rw f
 
-    by-mode : (m : Mode) → putIn m (d .bytes) t (λ n. []) .answer < 8
+    by-mode : (m : Mode) → Refusal (putIn m (d .bytes) t (λ n. []) .answer)
     by-mode (counting n) = counted (ltb most (n + length t)) n (n + length t)
     by-mode (writing c) = written (ltb (length (d .bytes)) (c + length t)) _ _ _ _ refl refl
 
-hold-below : (a b : ℕ) → a < 8 → b < 8 → hold a b < 8
-hold-below zero b p q = q
-hold-below (suc a) b p q = p
+hold-refusal : (a b : ℕ) → Refusal a → Refusal b → Refusal (hold a b)
+hold-refusal zero b p q = q
+hold-refusal (suc a) b p q = p
 
-tries-below : (d : Output) (ts : List (List ℕ)) → tries d ts .answer < 8
-tries-below d [] = omega arith
-tries-below d (t ∷ ts) = hold-below (put d t .answer) (tries (put d t .output) ts .answer) (put-below d t) (tries-below (put d t .output) ts)
+tries-refusal : (d : Output) (ts : List (List ℕ)) → Refusal (tries d ts .answer)
+tries-refusal d [] = refl
+tries-refusal d (t ∷ ts) = hold-refusal (put d t .answer) (tries (put d t .output) ts .answer) (put-refusal d t) (tries-refusal (put d t .output) ts)
 
 -- what an opening leaves in its builder, and a field or an entry
-pub opened-below : {r : PieceOutcome} (d : Output) (ts : List (List ℕ)) → r ≡ tries d ts → r .answer < 8
-opened-below d ts e = rw e (tries-below d ts)
+pub opened-refusal : {r : PieceOutcome} (d : Output) (ts : List (List ℕ)) → r ≡ tries d ts → Refusal (r .answer)
+opened-refusal d ts e = rw e (tries-refusal d ts)
 
-pub placed-below : {r : PieceOutcome} (a : ℕ) (d : Output) (ts : List (List ℕ)) → a < 8 → r ≡ tryAll (record { answer = a; output = d }) ts → r .answer < 8
-placed-below a d ts h e = rw (e, tried a d ts) (hold-below a (tries d ts .answer) h (tries-below d ts))
+pub placed-refusal : {r : PieceOutcome} (a : ℕ) (d : Output) (ts : List (List ℕ)) → Refusal a → r ≡ tryAll (record { answer = a; output = d }) ts → Refusal (r .answer)
+placed-refusal a d ts h e = rw (e, tried a d ts) (hold-refusal a (tries d ts .answer) h (tries-refusal d ts))
 
 -- what an entry holds
-pub entry-below : (n : ℕ) (k : Kind) (has : Bool) (h : ℕ) → entryOf n ≡ builder k has h → h < 8
+held-refusal : (n : ℕ) → Refusal (heldOf n)
+held-refusal zero = refl
+held-refusal (suc zero) = refl
+held-refusal (suc (suc n)) = refl
+
+pub entry-refusal : (n : ℕ) (k : Kind) (has : Bool) (h : ℕ) → entryOf n ≡ builder k has h → Refusal h
 unfolding entryOf
-entry-below n k has h e = go (n % 2) e
+entry-refusal n k has h e = go (n % 2) e
   where
     held-in : Entry → ℕ
     held-in (builder k has h) = h
     held-in (outer f m) = 0
 
-    go : (t : ℕ) → byTag t n ≡ builder k has h → h < 8
-    go zero q = let p : n / 16 % 8 ≡ h = ap held-in q in omega (arith, p)
-    go (suc t) q = let p : 0 ≡ h = ap held-in q in omega (arith, p)
+    go : (t : ℕ) → byTag t n ≡ builder k has h → Refusal h
+    go zero q = let p : heldOf (n / 16) ≡ h = ap held-in q in rw (← p) (held-refusal (n / 16))
+    go (suc t) q = let p : 0 ≡ h = ap held-in q in rw (← p) refl

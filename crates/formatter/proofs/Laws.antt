@@ -8,7 +8,7 @@ use borrow.Author.Tests.{le-leb, lt-leb}
 use Rattle.formatting.specs.FlagsAsNumber.{flagsOf}
 use Rattle.agreement.specs.declared.Kind.the-variants.{Set}
 use Rattle.agreement.specs.declared.Entry.the-variants.{Builder as builder, Outer as outer}
-use Rattle.formatter.specs.Entries.{kindOf, builderOf, outerOf, byTag, entryOf}
+use Rattle.formatter.specs.Entries.{kindOf, heldOf, builderOf, outerOf, byTag, entryOf}
 use Rattle.formatter.specs.View.{depthOf, marginOf}
 
 -- the last kind
@@ -17,6 +17,17 @@ set-of zero p q r = absurd (p refl)
 set-of (suc zero) p q r = absurd (q refl)
 set-of (suc (suc zero)) p q r = absurd (r refl)
 set-of (suc (suc (suc n))) p q r = refl
+
+-- a refusal by its number: none and 1, and 6 for all above
+pub held-low : (n : ℕ) → n < 2 → n ≡ heldOf n
+held-low zero h = refl
+held-low (suc zero) h = refl
+held-low (suc (suc n)) h = absurd (omega arith)
+
+pub held-high : (n : ℕ) → 2 ≤ n → 6 ≡ heldOf n
+held-high zero h = absurd (omega arith)
+held-high (suc zero) h = absurd (omega arith)
+held-high (suc (suc n)) h = refl
 
 -- even and odd
 pub is-builder : (n : ℕ) → n % 2 ≡ 0 → entryOf n ≡ builderOf n
@@ -32,7 +43,7 @@ is-outer n h = go (n % 2) h
     go (suc t) q = refl
 
 -- unpacking after packing
-pub packed-builder : (a b h : ℕ) → a < 4 → b < 2 → h < 8 → entryOf (2 * a + 8 * b + 16 * h) ≡ builder (kindOf a) (eqb b 1) h
+pub packed-builder : (a b h : ℕ) → a < 4 → b < 2 → heldOf h ≡ h → entryOf (2 * a + 8 * b + 16 * h) ≡ builder (kindOf a) (eqb b 1) h
 packed-builder a b h ha hb hh =
     let n = 2 * a + 8 * b + 16 * h in
     let q₁ : n / 2 ≡ a + 4 * b + 8 * h = omega arith in
@@ -40,8 +51,7 @@ packed-builder a b h ha hb hh =
     let q₃ : n / 16 ≡ h = omega arith in
     let e₁ : n / 2 % 4 ≡ a = rw q₁ (omega arith) in
     let e₂ : n / 8 % 2 ≡ b = rw q₂ (omega arith) in
-    let e₃ : n / 16 % 8 ≡ h = rw q₃ (omega arith) in
-    is-builder n (omega arith) ∙ rw (e₁, e₂, e₃)
+    is-builder n (omega arith) ∙ rw (e₁, e₂, q₃, hh)
 
 pub packed-outer : (a m : ℕ) → a < 16 → m < 65536 → entryOf (1 + 2 * a + 32 * m) ≡ outer (flagsOf a) m
 packed-outer a m ha hm =

@@ -39,7 +39,7 @@ stack-top : (s : List ℕ) (d : ℕ) → (d ≡ 0 → ⊥) → stackOf s d ≡ e
 stack-top s zero h = absurd (h refl)
 stack-top s (suc d) h = let e : suc d - 1 ≡ d = omega arith in rw e
 
-length-stack : (s : List ℕ) (d : ℕ) → length (stackOf s d) ≡ d
+pub length-stack : (s : List ℕ) (d : ℕ) → length (stackOf s d) ≡ d
 length-stack s zero = refl
 length-stack s (suc d) = ap suc (length-stack s d)
 

@@ -1,4 +1,4 @@
--- The state of the model that a formatter and the lent bytes are. Every formatter is one: nothing is damaged.
+-- The state of the model that a formatter and the lent bytes are. Every formatter is one (docs/DECISIONS.md, 'The formatter').
 use mathlib.Core.Bool.{cond}
 use mathlib.Core.List.{List, [], _∷_}
 use Prim.Native.Nat.{ℕ, zero, suc, _%_}
@@ -12,16 +12,16 @@ use Rattle.formatter.specs.Entries.{entryOf}
 use Rattle.formatter.specs.declared.head.Head.{Head}
 use Rattle.formatter.specs.declared.head.HeadStep.{HeadStep}
 
--- Document 01, 'Rust forms that cannot come along': the first d numbers of the stack, the innermost (the last) first
+-- Document 01, 'Rust forms that cannot come along': a stack of open entries; the first d numbers of it, the innermost (the last) first
 abbrev pub stackOf : List ℕ → ℕ → List Entry
 stackOf s zero = []
 stackOf s (suc d) = entryOf (getD s d 0) ∷ stackOf s d
 
--- Document 01, 'Rust forms that cannot come along': the stack has 64 places, and a depth above that is 64
+-- Document 01, 'Rust forms that cannot come along': at most 64 are open; docs/DECISIONS.md, 'The formatter': a depth above that reads as 64
 unfoldable pub depthOf : ℕ → ℕ
 depthOf d = cond (leb d 64) d 64
 
--- Document 01, 'A nested record': a margin is of 16 bits, and what stands above them says nothing
+-- docs/DECISIONS.md, 'The formatter': a margin is of 16 bits, and what stands above them says nothing
 abbrev pub marginOf : ℕ → ℕ
 marginOf m = m % 65536
 
@@ -29,6 +29,6 @@ marginOf m = m % 65536
 abbrev pub view : Head → List ℕ → List ℕ → State
 view h s b = record { output = outputOf (h .mode) b; flags = flagsOf (h .flags); margin = marginOf (h .margin); stack = stackOf s (depthOf (h .depth)) }
 
--- Document 01, 'Rust forms that cannot come along': what a call answers, with the stack and the bytes as they then are
+-- Document 01, 'A nested record': what a call answers, with the stack and the bytes as they then are
 abbrev pub viewOut : HeadStep → List ℕ → List ℕ → Out
 viewOut r s b = record { answer = r .answer; state = view (r .head) s b }

@@ -2,7 +2,7 @@
 ghost use mathlib.Core.Path.{_≡_};
 ghost use Prim.Native.Nat.{_<_};
 ghost use Rattle.agreement.specs.declared.Entry.the-variants.{Builder as builder, Outer as outer};
-ghost use Rattle.formatter.specs.Entries.{entryOf, kindOf};
+ghost use Rattle.formatter.specs.Entries.{entryOf, heldOf, kindOf};
 use agreement::Entry;
 use agreement::Kind;
 use formatting::FormattingFlags;
@@ -36,13 +36,22 @@ fn kind_number(k: Kind) -> u32
     }
 }
 
+// The refusal that a number is: none, 1 or 6.
+fn held_of(n: u32) -> u8
+    ensures { λ r. ⌜ r ≡ heldOf n ⌝ }
+{
+    if n < 2 {
+        return n as u8;
+    }
+    6
+}
+
 // The entry that a number is.
 pub(crate) fn unpack(n: u32) -> Entry
     ensures { λ r. ⌜ r ≡ entryOf n ⌝ }
 {
     if n % 2 == 0 {
-        let held = n / 16 % 8;
-        return Entry::Builder(kind_of(n / 2 % 4), n / 8 % 2 == 1, held as u8);
+        return Entry::Builder(kind_of(n / 2 % 4), n / 8 % 2 == 1, held_of(n / 16));
     }
     let flags = n / 2 % 16;
     let margin = n / 32 % 65536;
@@ -51,7 +60,7 @@ pub(crate) fn unpack(n: u32) -> Entry
 
 // A number that is a builder.
 pub(crate) fn pack_builder(k: Kind, has: bool, held: u8) -> u32
-    requires { ⌜ held < 8 ⌝ }
+    requires { ⌜ heldOf held ≡ held ⌝ }
     ensures { λ r. ⌜ entryOf r ≡ builder k has held ⌝ }
 {
     let a = kind_number(k);

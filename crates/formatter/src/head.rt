@@ -61,6 +61,13 @@ impl Head {
         (self.margin % 65536) as u16
     }
 
+    // How many entries are open.
+    pub fn open_entries(self) -> usize
+        ensures { λ r. ⌜ ((s b : List ℕ) → r ≡ length (view self s b .stack)) ⌝ }
+    {
+        depth_of(self.depth)
+    }
+
     // The flags in force.
     pub fn flags(self) -> FormattingFlags
         ensures { λ r. ⌜ r ≡ flagsOf (self .flags) ⌝ }
@@ -188,6 +195,7 @@ pub fn finish_at(h: Head, stack: &mut [u32; 64], buf: &mut [u8]) -> HeadStep
     match e {
         Entry::Outer(_, _) => HeadStep { answer: 8, head: h },
         Entry::Builder(k, has, held) => {
+            let low = lower(h.margin());
             if held != 0 {
                 return HeadStep {
                     answer: held,
@@ -200,7 +208,6 @@ pub fn finish_at(h: Head, stack: &mut [u32; 64], buf: &mut [u8]) -> HeadStep
                 };
             }
             let flags = h.flags();
-            let low = lower(h.margin());
             let w = close(mode, buf, k, has, flags.is_alternate, low as usize);
             let after = w.mode;
             HeadStep {

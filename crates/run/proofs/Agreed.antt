@@ -2,25 +2,27 @@
 use mathlib.Core.Bool.{Bool, true, false, cond}
 use mathlib.Core.Option.{Option, none, some}
 use mathlib.Core.Path.{_≡_, refl, sym, ap, subst, _∙_}
-use mathlib.Core.List.{List, [], _∷_, map}
+use mathlib.Core.Logic.{_↔_}
+use mathlib.Core.List.{List, [], _∷_, _++_, map}
 use Prim.Native.Nat.{ℕ, zero, suc, _+_, _≤_}
-use native.Mathlib.Nat.{le-refl}
+use native.Mathlib.Decide.{decLe}
 use native.Mathlib.Omega.{arith}
 use lib.Dec.{ltb}
-use lib.ListN.{length}
-use borrow.Author.Tests.{le-leb}
+use lib.ListN.{length, take, drop}
+use borrow.Author.Tests.{le-leb, lt-leb}
 use Rattle.formatting.specs.declared.flags.FormattingFlags.{FormattingFlags}
+use Rattle.agreement.specs.declared.Entry.{Entry}
 use Rattle.agreement.specs.Call.{Call}
-use Rattle.agreement.specs.Model.{Mode, numberIn, counting, writing, Output, to, most, putIn, hold, State, beyond, step, run, start}
-use Rattle.agreement.specs.Agreement.{AllDone}
-use Rattle.agreement.proofs.Output.{KeptIn}
+use Rattle.agreement.specs.Model.{Mode, numberIn, counting, writing, Output, to, most, putIn, State, guard, beyond, step, run, start}
+use Rattle.agreement.specs.Agreement.{AllDone, AllWhole, definedText, AsCounted}
 use Rattle.agreement.proofs.Keeping.{guard-cases, On, In, step-keep}
-use Rattle.agreement.proofs.Moves.{run-kept}
-use Rattle.agreement.proofs.Agree.{agree}
+use Rattle.agreement.proofs.Agree.{done-first, first-done, agree}
+use Rattle.agreement.proofs.Counting.{count-suffices}
 use Rattle.writer_backend.specs.declared.pieces.WriterBackend.{WriterBackend}
 use Rattle.writer_backend.specs.Output.{asMode, outputOf}
 use Rattle.encoded_call.specs.Encoding.{stepOr}
-use Rattle.run.specs.Played.{Played, playFrom, CountAgrees, WriteAgrees}
+use Rattle.run.specs.declared.Ran.{Ran}
+use Rattle.run.specs.Played.{Played, runOr, ended, played, endCounted, endWritten, CountAgrees, WriteAgrees, callsIn, WritesAsCounted}
 
 -- what each piece keeps of the output, each list of words keeps that is played
 module _ (P : Mode → List ℕ → Type 0) (keeps : (m : Mode) (b t : List ℕ) (l : ℕ → List ℕ) → ((n : ℕ) → length (l n) ≤ n) → P m b → On P (putIn m b t l .output)) where
@@ -28,9 +30,9 @@ module _ (P : Mode → List ℕ → Type 0) (keeps : (m : Mode) (b t : List ℕ)
   or-keep F (some c) h = step-keep P keeps F c h
   or-keep F none h = guard-cases (In P) (beyond (F .output .mode) (F .output .bytes)) F _ h h
 
-  play-keep : (a : ℕ) (F : State) (ds : List (Option Call)) → In P F → On P (playFrom a F ds .output)
-  play-keep a F [] h = h
-  play-keep a F (c ∷ ds) h = play-keep (hold a (stepOr F c .answer)) (stepOr F c .state) ds (or-keep F c h)
+  play-keep : (F : State) (ds : List (Option Call)) → In P F → In P (runOr F ds .state)
+  play-keep F [] h = h
+  play-keep F (c ∷ ds) h = play-keep (stepOr F c .state) ds (or-keep F c h)
 
 -- a counting output with no bytes, and a writing one
 abbrev Counts : Mode → List ℕ → Type 0
@@ -62,78 +64,106 @@ writing-output : (t n : ℕ) (b : List ℕ) → Writes (asMode t n) b → _≡_ 
 writing-output zero n b h = refl
 writing-output (suc t) n b h = absurd h
 
-abbrev ended : ℕ → Output → Played
-ended e d = record { first = e; output = d }
+abbrev endOf : ℕ → ℕ → ℕ → Output → Played
+endOf e p o d = record { first = e; place = p; entries = o; output = d }
 
-pub counted : (n : ℕ) (f : FormattingFlags) (ds : List (Option Call)) (e : ℕ) (w : WriterBackend) (b : List ℕ)
-    → _≡_ {A = Played} (record { first = e; output = outputOf w b }) (playFrom 0 (start (counting n) [] f) ds)
-    → _≡_ {A = Played} (record { first = e; output = record { mode = counting (w .number); bytes = [] } }) (playFrom 0 (start (counting n) [] f) ds)
-counted n f ds e w b q =
-    let k = play-keep Counts counts-keeps 0 (start (counting n) [] f) ds refl in
-    ap (ended e) (counting-output (w .counting) (w .number) b (subst (λ (r : Played). On Counts (r .output)) (sym q) k)) ∙ q
+pub counted : (n : ℕ) (f : FormattingFlags) (ds : List (Option Call)) (e p o : ℕ) (w : WriterBackend) (b : List ℕ)
+    → endOf e p o (outputOf w b) ≡ played (counting n) [] f ds → endOf e p o (record { mode = counting (w .number); bytes = [] }) ≡ played (counting n) [] f ds
+counted n f ds e p o w b q =
+    let k = play-keep Counts counts-keeps (start (counting n) [] f) ds refl in
+    ap (endOf e p o) (counting-output (w .counting) (w .number) b (subst (λ (r : Played). On Counts (r .output)) (sym q) k)) ∙ q
 
-pub written : (f : FormattingFlags) (ds : List (Option Call)) (b0 : List ℕ) (p : ℕ) (e : ℕ) (w : WriterBackend) (b : List ℕ)
-    → _≡_ {A = Played} (record { first = e; output = outputOf w b }) (playFrom (beyond (writing p) b0) (start (writing p) b0 f) ds)
-    → _≡_ {A = Played} (record { first = e; output = record { mode = writing (w .number); bytes = b } }) (playFrom (beyond (writing p) b0) (start (writing p) b0 f) ds)
-written f ds b0 p e w b q =
-    let k = play-keep Writes writes-keeps (beyond (writing p) b0) (start (writing p) b0 f) ds tt in
-    ap (ended e) (writing-output (w .counting) (w .number) b (subst (λ (r : Played). On Writes (r .output)) (sym q) k)) ∙ q
-
--- the first answer that is not 0, held along the answers; it is 0 exactly if all are
-abbrev firstOf : ℕ → List ℕ → ℕ
-firstOf a [] = a
-firstOf a (x ∷ r) = firstOf (hold a x) r
-
-first-held : (a : ℕ) (r : List ℕ) → firstOf (suc a) r ≡ suc a
-first-held a [] = refl
-first-held a (x ∷ r) = first-held a r
-
-done-first : (r : List ℕ) → AllDone r → firstOf 0 r ≡ 0
-done-first [] d = refl
-done-first (x ∷ r) d = rw (d .0) (done-first r (d .1))
-
-first-done : (r : List ℕ) → firstOf 0 r ≡ 0 → AllDone r
-first-done [] q = tt
-first-done (zero ∷ r) q = (refl, first-done r q)
-first-done (suc a ∷ r) q = absurd (omega (arith, first-held a r))
+pub written : (f : FormattingFlags) (ds : List (Option Call)) (b0 : List ℕ) (at : ℕ) (e p o : ℕ) (w : WriterBackend) (b : List ℕ)
+    → endOf e p o (outputOf w b) ≡ played (writing at) b0 f ds → endOf e p o (record { mode = writing (w .number); bytes = b }) ≡ played (writing at) b0 f ds
+written f ds b0 at e p o w b q =
+    let k = play-keep Writes writes-keeps (start (writing at) b0 f) ds tt in
+    ap (endOf e p o) (writing-output (w .counting) (w .number) b (subst (λ (r : Played). On Writes (r .output)) (sym q) k)) ∙ q
 
 -- a list in which each is a call plays as the model runs it
-play-run : (a : ℕ) (F : State) (cs : List Call) → playFrom a F (map some cs) ≡ record { first = firstOf a (run F cs .answers); output = run F cs .state .output }
-play-run a F [] = refl
-play-run a F (c ∷ cs) = play-run (hold a (step F c .answer)) (step F c .state) cs
+play-run : (F : State) (cs : List Call) → runOr F (map some cs) ≡ run F cs
+play-run F [] = refl
+play-run F (c ∷ cs) = rw (play-run (step F c .state) cs)
 
-module _ (F : State) (ds : List (Option Call)) (cs : List Call) (s : ds ≡ map some cs) (r : Played) (q : r ≡ playFrom 0 F ds) where
-  as-run : r ≡ record { first = firstOf 0 (run F cs .answers); output = run F cs .state .output }
-  as-run = q ∙ ap (playFrom 0 F) s ∙ play-run 0 F cs
+module _ (m : Mode) (b : List ℕ) (f : FormattingFlags) (ds : List (Option Call)) (cs : List Call) (s : ds ≡ map some cs) (z : beyond m b ≡ 0) (r : Played) (q : r ≡ played m b f ds) where
+  as-run : r ≡ ended 0 (run (start m b f) cs)
+  as-run = q ∙ rw (s, z, play-run (start m b f) cs)
 
-  run-first : r .first ≡ firstOf 0 (run F cs .answers)
-  run-first = ap (λ (x : Played). x .first) as-run
+-- where every answer is 0, each is a call
+no-call : (F : State) → stepOr F none .answer ≡ 0 → ⊥
+no-call F e = go (beyond (F .output .mode) (F .output .bytes)) e
+  where
+    go : (n : ℕ) → guard n F (record { answer = 8; state = F }) .answer ≡ 0 → ⊥
+    go zero z = omega arith
+    go (suc n) z = omega arith
 
-  run-output : r .output ≡ run F cs .state .output
-  run-output = ap (λ (x : Played). x .output) as-run
+all-calls : (F : State) (ds : List (Option Call)) → AllDone (runOr F ds .answers) → ds ≡ map some (callsIn ds)
+all-calls F [] d = refl
+all-calls F (some c ∷ ds) d = ap (λ (l : List (Option Call)). some c ∷ l) (all-calls (step F c .state) ds (d .1))
+all-calls F (none ∷ ds) d = absurd (no-call F (d .0))
 
-pub count-agrees : (f : FormattingFlags) (ds : List (Option Call)) (e n : ℕ)
-    → _≡_ {A = Played} (record { first = e; output = record { mode = counting n; bytes = [] } }) (playFrom 0 (start (counting 0) [] f) ds)
-    → CountAgrees f ds (record { first = e; number = n })
-count-agrees f ds e n q cs s P h =
-    let F = start (counting 0) [] f in
-    let C = agree f cs P h .0 in (
-      run-first F ds cs s _ q ∙ done-first (run F cs .answers) (C .done),
-      ap (λ (d : Output). numberIn (d .mode)) (run-output F ds cs s _ q) ∙ ap numberIn (C .total),
-    )
+none-left : (s : List Entry) → length s ≡ 0 → s ≡ []
+none-left [] e = refl
+none-left (x ∷ s) e = absurd (omega arith)
 
-pub write-agrees : (f : FormattingFlags) (ds : List (Option Call)) (b0 : List ℕ) (p e n : ℕ) (b : List ℕ)
-    → _≡_ {A = Played} (record { first = e; output = record { mode = writing n; bytes = b } }) (playFrom (beyond (writing p) b0) (start (writing p) b0 f) ds)
-    → WriteAgrees f ds b0 p (record { first = e; number = n }) b
-write-agrees f ds b0 p e n b r cs s P h k =
-    let F = start (writing p) b0 f in
-    let q = rw (le-leb p (length b0) k) at r in
-    let W = agree f cs P h .1 b0 p k in
-    let i = run-first F ds cs s _ q in
-    let d = run-output F ds cs s _ q in (
-      (λ z. W .exactly .0 (first-done (run F cs .answers) (sym i ∙ z)), λ z. i ∙ done-first (run F cs .answers) (W .exactly .1 z)),
-      (
-        λ z. (ap (λ (x : Output). numberIn (x .mode)) d ∙ ap numberIn (W .cursor z), ap (λ (x : Output). x .bytes) d ∙ W .bytes z),
-        subst (λ (x : Output). KeptIn (writing p) b0 x) (sym d) (run-kept (writing p) b0 F cs (le-refl p, k, refl, refl)) .3,
-      ),
-    )
+module _ (f : FormattingFlags) (ds : List (Option Call)) where
+  pub count-agrees : (r : Ran) → endCounted r ≡ played (counting 0) [] f ds → CountAgrees f ds (r .first) (r .number)
+  count-agrees r q cs s P h =
+      let C = agree f cs P h .0 [] in
+      let e = as-run (counting 0) [] f ds cs s refl _ q in (
+        ap (λ (x : Played). x .first) e ∙ done-first (run (start (counting 0) [] f) cs .answers) (C .done),
+        ap (λ (x : Played). numberIn (x .output .mode)) e ∙ ap (λ (d : Output). numberIn (d .mode)) (C .output),
+      )
+
+  module _ (b : List ℕ) (p : ℕ) (r : Ran) (b' : List ℕ) (q : endWritten r b' ≡ played (writing p) b f ds) where
+    pub write-agrees : WriteAgrees f ds b p (r .first) (r .number) b'
+    write-agrees cs s P h k =
+        let W = agree f cs P h .1 b p k in
+        let e = as-run (writing p) b f ds cs s (rw (le-leb p (length b) k)) _ q in
+        let i = ap (λ (x : Played). x .first) e in
+        let d = ap (λ (x : Played). x .output) e in
+        let A = run (start (writing p) b f) cs .answers in
+        record {
+          exactly = (λ z. W .exactly .0 (first-done A (sym i ∙ z)), λ z. i ∙ done-first A (W .exactly .1 z));
+          leaves = λ z. (ap (λ (x : Output). numberIn (x .mode)) d ∙ ap numberIn (W .cursor z), ap (λ (x : Output). x .bytes) d ∙ W .bytes z);
+          refused = λ z. i ∙ W .refused z;
+          before = ap (λ (x : Output). take p (x .bytes)) d ∙ W .before;
+          size = ap (λ (x : Output). length (x .bytes)) d ∙ W .size;
+        }
+
+    pub writes-as-counted : WritesAsCounted (played (counting 0) [] f ds) f ds b p (r .first) (r .number) b'
+    writes-as-counted c C = go (decLe p (length b))
+      where
+        cs : List Call
+        cs = callsIn ds
+
+        F : State
+        F = start (counting 0) [] f
+
+        s : ds ≡ map some cs
+        s = all-calls F ds (first-done (runOr F ds .answers) (C .done))
+
+        e : played (counting 0) [] f ds ≡ ended 0 (run F cs)
+        e = as-run (counting 0) [] f ds cs s refl (played (counting 0) [] f ds) refl
+
+        S : (length (definedText f cs) ≡ c) × ((b : List ℕ) (p : ℕ) → p ≤ length b → AsCounted f cs c b p)
+        S =
+            count-suffices f cs c
+            (first-done (run F cs .answers) (sym (ap (λ (x : Played). x .first) e) ∙ C .done))
+            (sym (ap (λ (x : Played). x .output .mode) e) ∙ C .total)
+            (none-left (run F cs .state .stack) (sym (ap (λ (x : Played). x .entries) e) ∙ C .closed))
+
+        go : Dec (p ≤ length b)
+            → (length (definedText f cs) ≡ c) × ((r .first ≡ 0) ↔ ((p + c ≤ length b) × AllWhole cs)) × (r .first ≡ 0 → (r .number ≡ p + c) × (b' ≡ take p b ++ definedText f cs ++ drop (p + c) b))
+        go (yes k) =
+            let W = S .1 b p k in
+            let w = as-run (writing p) b f ds cs s (rw (le-leb p (length b) k)) _ q in
+            let i = ap (λ (x : Played). x .first) w in
+            let d = ap (λ (x : Played). x .output) w in
+            let A = run (start (writing p) b f) cs .answers in (
+              S .0,
+              (λ z. W .exactly .0 (first-done A (sym i ∙ z)), λ z. i ∙ done-first A (W .exactly .1 z)),
+              λ z. let o = d ∙ W .output (first-done A (sym i ∙ z)) in (ap (λ (x : Output). numberIn (x .mode)) o, ap (λ (x : Output). x .bytes) o),
+            )
+        go (no k) =
+            let i : r .first ≡ 9 = ap (λ (x : Played). x .first) q ∙ rw (lt-leb p (length b) (omega arith)) in
+            (S .0, (λ z. absurd (omega arith), λ z. absurd (omega (arith, z .0))), λ z. absurd (omega arith))

@@ -2,45 +2,94 @@
 // of open entries is a local array that is lent to the calls.
 ghost use mathlib.Core.Path.{_≡_};
 ghost use mathlib.Core.List.{[]};
-ghost use Rattle.agreement.specs.Model.{start, counting, writing, beyond};
+ghost use Prim.Native.Nat.{_/_};
+ghost use lib.ListN.{length, set};
+ghost use Rattle.agreement.specs.Model.{hold, start, counting, writing};
 ghost use Rattle.writer_backend.specs.Output.{outputOf, modeOf};
 ghost use Rattle.encoded_call.specs.Encoding.{decode};
-ghost use Rattle.run.specs.Played.{playFrom, CountAgrees, WriteAgrees};
+ghost use Rattle.run.specs.Played.{runOr, played, endCounted, endWritten, stored, CountAgrees, WriteAgrees, WritesAsCounted};
+ghost use Rattle.run.specs.Noting.{noted, placeOr};
 use encoded_call::call_at;
 use formatter::Head;
 use formatting::FormattingFlags;
 use writer_backend::WriterBackend;
-use writer_backend::first;
 use writer_backend::past;
 
-// The end of a run: its first refusal by document 01's number, 0 for none, and its total or cursor.
+// The end of a run: its first refusal by document 01's number, 0 for none; its total or cursor; the
+// place of the call that was refused first, as many as there are calls where none was; and how many
+// entries are open.
 pub struct Ran {
     pub first: u8,
     pub number: usize,
+    pub place: usize,
+    pub entries: usize,
 }
 
-// The same with the output.
+// Where the text went, and how many entries are open.
 struct End {
-    first: u8,
+    entries: usize,
     mode: WriterBackend,
 }
 
-// Plays the calls from the beginning: 9 where the cursor is past the buffer, also of no calls.
+// Notes an answer with the word that its call begins at, if it is the first refusal.
+fn note(first: &mut u8, place: &mut usize, answer: u8, i: usize)
+    ensures { λ _. ⌜ now (first .exit) ≡ hold (now (first .entry)) answer ⌝ }
+    ensures { λ _. ⌜ now (place .exit) ≡ noted (now (first .entry)) answer i (now (place .entry)) ⌝ }
+{
+    if answer == 0 {
+        return;
+    }
+    if *first == 0 {
+        *first = answer;
+        *place = i;
+    }
+}
+
+// The place of the first refusal: the end, where there is none.
+fn place_of(refusal: u8, end: usize, place: usize) -> usize
+    ensures { λ r. ⌜ r ≡ placeOr refusal end place ⌝ }
+{
+    if refusal == 0 {
+        return end;
+    }
+    place
+}
+
+// Stores an answer in its place, if there is one. No places at all is the common case.
+fn store(answers: &mut [u8], at: usize, answer: u8)
+    ensures { λ _. ⌜ now (answers .exit) ≡ set (now (answers .entry)) at answer ⌝ }
+{
+    if answers.len() == 0 {
+        return;
+    }
+    if at < answers.len() {
+        answers[at] = answer;
+    }
+}
+
+// Plays the calls from the beginning: 9 where the cursor is past the buffer, also of no calls. The
+// first refusal and the word that its call begins at are lent: so they stay out of the registers
+// while nothing is refused.
 fn play(
     mode: WriterBackend,
     flags: FormattingFlags,
     buf: &mut [u8],
     calls: &[u64],
     text: &[u8],
+    answers: &mut [u8],
+    first: &mut u8,
+    place: &mut usize,
 ) -> End
-    ensures { λ r. ⌜ record { first = r .first; output = outputOf (r .mode) (now (buf .exit)) } ≡ playFrom (beyond (modeOf mode) (now (buf .entry))) (start (modeOf mode) (now (buf .entry)) flags) (decode (now (calls .entry)) (now (text .entry))) ⌝ }
+    ensures { λ r. ⌜ record { first = now (first .exit); place = placeOr (now (first .exit)) (length (now (calls .entry)) / 5) (now (place .exit) / 5); entries = r .entries; output = outputOf (r .mode) (now (buf .exit)) } ≡ played (modeOf mode) (now (buf .entry)) flags (decode (now (calls .entry)) (now (text .entry))) ⌝ }
+    ensures { λ _. ⌜ now (answers .exit) ≡ stored (now (answers .entry)) (runOr (start (modeOf mode) (now (buf .entry)) flags) (decode (now (calls .entry)) (now (text .entry))) .answers) ⌝ }
 {
     let mut stack = [0u32; 64];
     let mut head = Head::new(mode, flags);
-    let over = past(mode, buf);
-    let mut refusal: u8 = over;
+    *first = past(mode, buf);
+    *place = 0;
     let mut i = 0;
-    while 5 <= calls.len() - i {
+    let len = calls.len() / 5 * 5;
+    while i < len {
         let words = [
             calls[i],
             calls[i + 1],
@@ -51,43 +100,124 @@ fn play(
         let r = call_at(head, &mut stack, buf, words, text);
         let after = r.head;
         head = after;
-        refusal = first(refusal, r.answer);
+        note(first, place, r.answer, i);
+        store(answers, i / 5, r.answer);
         i += 5;
     }
     let end = head.mode;
     End {
-        first: refusal,
+        entries: head.open_entries(),
         mode: end,
     }
 }
 
-// Counts a run from a total that there is already: its first refusal and the total at the end.
-pub fn count_run_from(total: usize, flags: FormattingFlags, calls: &[u64], text: &[u8]) -> Ran
-    ensures { λ r. ⌜ record { first = r .first; output = record { mode = counting (r .number); bytes = [] } } ≡ playFrom 0 (start (counting total) [] flags) (decode (now (calls .entry)) (now (text .entry))) ⌝ }
+// Counts a run from a total that there is already, and stores each call's answer as far as there is
+// room.
+fn count_each_from(
+    total: usize,
+    flags: FormattingFlags,
+    calls: &[u64],
+    text: &[u8],
+    answers: &mut [u8],
+) -> Ran
+    ensures { λ r. ⌜ endCounted r ≡ played (counting total) [] flags (decode (now (calls .entry)) (now (text .entry))) ⌝ }
+    ensures { λ _. ⌜ now (answers .exit) ≡ stored (now (answers .entry)) (runOr (start (counting total) [] flags) (decode (now (calls .entry)) (now (text .entry))) .answers) ⌝ }
 {
     let mode = WriterBackend {
         counting: 1,
         number: total,
     };
     let mut none = [0u8; 0];
-    let end = play(mode, flags, &mut none, calls, text);
+    let mut first = 0u8;
+    let mut place = 0usize;
+    let end = play(
+        mode,
+        flags,
+        &mut none,
+        calls,
+        text,
+        answers,
+        &mut first,
+        &mut place,
+    );
     let counted = end.mode;
     Ran {
-        first: end.first,
+        first,
         number: counted.number,
+        place: place_of(first, calls.len() / 5, place / 5),
+        entries: end.entries,
     }
 }
 
-// Counts a run: its first refusal and its total.
-pub fn count_run(flags: FormattingFlags, calls: &[u64], text: &[u8]) -> Ran
-    ensures { λ r. ⌜ record { first = r .first; output = record { mode = counting (r .number); bytes = [] } } ≡ playFrom 0 (start (counting 0) [] flags) (decode (now (calls .entry)) (now (text .entry))) ⌝ }
-    ensures { λ r. ⌜ CountAgrees flags (decode (now (calls .entry)) (now (text .entry))) r ⌝ }
+// Counts a run from a total that there is already: its first refusal, with the place of that call,
+// the total at the end and how many entries are then open.
+pub fn count_run_from(total: usize, flags: FormattingFlags, calls: &[u64], text: &[u8]) -> Ran
+    ensures { λ r. ⌜ endCounted r ≡ played (counting total) [] flags (decode (now (calls .entry)) (now (text .entry))) ⌝ }
 {
-    count_run_from(0, flags, calls, text)
+    let mut none = [0u8; 0];
+    count_each_from(total, flags, calls, text, &mut none)
 }
 
-// Writes a run from a cursor: its first refusal, 9 where the cursor is past the buffer, and the
-// cursor at the end.
+// Counts a run, and stores each call's answer as far as there is room.
+pub fn count_run_each(flags: FormattingFlags, calls: &[u64], text: &[u8], answers: &mut [u8]) -> Ran
+    ensures { λ r. ⌜ endCounted r ≡ played (counting 0) [] flags (decode (now (calls .entry)) (now (text .entry))) ⌝ }
+    ensures { λ _. ⌜ now (answers .exit) ≡ stored (now (answers .entry)) (runOr (start (counting 0) [] flags) (decode (now (calls .entry)) (now (text .entry))) .answers) ⌝ }
+    ensures { λ r. ⌜ CountAgrees flags (decode (now (calls .entry)) (now (text .entry))) (r .first) (r .number) ⌝ }
+{
+    count_each_from(0, flags, calls, text, answers)
+}
+
+// Counts a run: its first refusal, with the place of that call, its total and how many entries it
+// leaves open.
+pub fn count_run(flags: FormattingFlags, calls: &[u64], text: &[u8]) -> Ran
+    ensures { λ r. ⌜ endCounted r ≡ played (counting 0) [] flags (decode (now (calls .entry)) (now (text .entry))) ⌝ }
+    ensures { λ r. ⌜ CountAgrees flags (decode (now (calls .entry)) (now (text .entry))) (r .first) (r .number) ⌝ }
+{
+    let mut none = [0u8; 0];
+    count_run_each(flags, calls, text, &mut none)
+}
+
+// Writes a run from a cursor, and stores each call's answer as far as there is room.
+pub fn write_run_each(
+    flags: FormattingFlags,
+    buf: &mut [u8],
+    at: usize,
+    calls: &[u64],
+    text: &[u8],
+    answers: &mut [u8],
+) -> Ran
+    ensures { λ r. ⌜ endWritten r (now (buf .exit)) ≡ played (writing at) (now (buf .entry)) flags (decode (now (calls .entry)) (now (text .entry))) ⌝ }
+    ensures { λ _. ⌜ now (answers .exit) ≡ stored (now (answers .entry)) (runOr (start (writing at) (now (buf .entry)) flags) (decode (now (calls .entry)) (now (text .entry))) .answers) ⌝ }
+    ensures { λ r. ⌜ WriteAgrees flags (decode (now (calls .entry)) (now (text .entry))) (now (buf .entry)) at (r .first) (r .number) (now (buf .exit)) ⌝ }
+    ensures { λ r. ⌜ WritesAsCounted (played (counting 0) [] flags (decode (now (calls .entry)) (now (text .entry)))) flags (decode (now (calls .entry)) (now (text .entry))) (now (buf .entry)) at (r .first) (r .number) (now (buf .exit)) ⌝ }
+{
+    let mode = WriterBackend {
+        counting: 0,
+        number: at,
+    };
+    let mut first = 0u8;
+    let mut place = 0usize;
+    let end = play(
+        mode,
+        flags,
+        buf,
+        calls,
+        text,
+        answers,
+        &mut first,
+        &mut place,
+    );
+    let after = end.mode;
+    Ran {
+        first,
+        number: after.number,
+        place: place_of(first, calls.len() / 5, place / 5),
+        entries: end.entries,
+    }
+}
+
+// Writes a run from a cursor: its first refusal, 9 where the cursor is past the buffer, with the
+// place of that call, the cursor at the end and how many entries it leaves open.
 pub fn write_run(
     flags: FormattingFlags,
     buf: &mut [u8],
@@ -95,17 +225,10 @@ pub fn write_run(
     calls: &[u64],
     text: &[u8],
 ) -> Ran
-    ensures { λ r. ⌜ record { first = r .first; output = record { mode = writing (r .number); bytes = now (buf .exit) } } ≡ playFrom (beyond (writing at) (now (buf .entry))) (start (writing at) (now (buf .entry)) flags) (decode (now (calls .entry)) (now (text .entry))) ⌝ }
-    ensures { λ r. ⌜ WriteAgrees flags (decode (now (calls .entry)) (now (text .entry))) (now (buf .entry)) at r (now (buf .exit)) ⌝ }
+    ensures { λ r. ⌜ endWritten r (now (buf .exit)) ≡ played (writing at) (now (buf .entry)) flags (decode (now (calls .entry)) (now (text .entry))) ⌝ }
+    ensures { λ r. ⌜ WriteAgrees flags (decode (now (calls .entry)) (now (text .entry))) (now (buf .entry)) at (r .first) (r .number) (now (buf .exit)) ⌝ }
+    ensures { λ r. ⌜ WritesAsCounted (played (counting 0) [] flags (decode (now (calls .entry)) (now (text .entry)))) flags (decode (now (calls .entry)) (now (text .entry))) (now (buf .entry)) at (r .first) (r .number) (now (buf .exit)) ⌝ }
 {
-    let mode = WriterBackend {
-        counting: 0,
-        number: at,
-    };
-    let end = play(mode, flags, buf, calls, text);
-    let after = end.mode;
-    Ran {
-        first: end.first,
-        number: after.number,
-    }
+    let mut none = [0u8; 0];
+    write_run_each(flags, buf, at, calls, text, &mut none)
 }

@@ -27,8 +27,8 @@ pub enum Head {
 pub(crate) fn read_head(head: &[u8]) -> Head {
     let fields = later_fields(head);
     let others = later_fields(fields);
-    let word = place_of(first_field(head), b"show,both,add,count,write");
-    if word < 5 {
+    let word = place_of(first_field(head), b"show,both,add,count,write,each,calls");
+    if word < 7 {
         if let Number::Is(flags) = number(first_field(fields), 11) {
             if let Number::Is(n) = number(first_field(others), u64::MAX) {
                 return Head::Is(word as u64, flags_of(flags), n as usize);

@@ -7,9 +7,7 @@ use calls::Head;
 use calls::name_of;
 use calls::read_head;
 use calls::read_run;
-use compute_str_length::count_run_then_add_len;
 use fields::index_of;
-use fields::put_number;
 use formatting::FormattingFlags;
 use libc::STDIN_FILENO;
 use libc::STDOUT_FILENO;
@@ -18,7 +16,10 @@ use lines::MAX_LINE;
 use lines::Reader;
 use lines::next_line;
 use lines::part;
+use print::put_added;
 use print::put_both;
+use print::put_calls;
+use print::put_each;
 use print::put_ran;
 use print::show;
 use run::Ran;
@@ -38,7 +39,7 @@ fn play_once(word: u64, flags: FormattingFlags, n: usize, calls: &[u64], text: &
 }
 
 // Lays the name of a run, and what it gives, played as its word says: 0 show, 1 both, 2 add, 3 count,
-// 4 write.
+// 4 write, 5 each, 6 calls.
 fn play(
     word: u64,
     flags: FormattingFlags,
@@ -58,14 +59,13 @@ fn play(
         return put_both(out, at, flags, FormattingFlags::DEFAULT, n, calls, text);
     }
     if word == 2 {
-        let r = count_run_then_add_len(flags, calls, text, n);
-        let answers = Ran {
-            first: r.first,
-            number: r.second as usize,
-        };
-        let total = put_ran(out, at, answers, b' ');
-        let end = put_number(out, total, r.total as u64, b'\n');
-        return end.at;
+        return put_added(out, at, flags, n, calls, text);
+    }
+    if word == 5 {
+        return put_each(out, at, flags, n, calls, text);
+    }
+    if word == 6 {
+        return put_calls(out, at, flags, n, calls, text);
     }
     put_ran(out, at, play_once(word, flags, n, calls, text), b'\n')
 }

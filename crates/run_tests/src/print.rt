@@ -1,12 +1,23 @@
 // What is printed, laid into a buffer at a place. Each function gives the place behind it.
+use compute_str_length::CountedCall;
+use compute_str_length::count_call_then_len;
+use compute_str_length::count_run_then_add_len;
+use encoded_call::op_at;
 use fields::put_hex;
 use fields::put_number;
+use formatter::Head;
 use formatting::FormattingFlags;
+use formatting::bit;
+use lines::part;
 use run::Ran;
 use run::count_run;
+use run::count_run_each;
 use run::write_run;
+use run::write_run_each;
 use str_writer::write_ascii;
 use str_writer::write_ascii_repeated;
+use utils::slice_up_to_len;
+use writer_backend::WriterBackend;
 
 // A space and a number.
 fn put_next(out: &mut [u8], at: usize, n: usize, after: u8) -> usize {
@@ -15,11 +26,94 @@ fn put_next(out: &mut [u8], at: usize, n: usize, after: u8) -> usize {
     end.at
 }
 
-// A run's first refusal, and its total or cursor.
+// The end of a run: its first refusal, its total or cursor, how many calls were done before that
+// refusal, and how many entries are open.
 pub(crate) fn put_ran(out: &mut [u8], at: usize, r: Ran, after: u8) -> usize {
     let first = put_next(out, at, r.first as usize, b' ');
-    let end = put_number(out, first, r.number as u64, after);
+    let number = put_number(out, first, r.number as u64, b' ');
+    let place = put_number(out, number.at, r.place as u64, b' ');
+    let end = put_number(out, place.at, r.entries as u64, after);
     end.at
+}
+
+// A run counted by the counter that is lent, and a length added: the end of the run, the answer to
+// the length, and the total.
+pub(crate) fn put_added(
+    out: &mut [u8],
+    at: usize,
+    flags: FormattingFlags,
+    len: usize,
+    calls: &[u64],
+    text: &[u8],
+) -> usize {
+    let r = count_run_then_add_len(flags, calls, text, len);
+    let ran = r.ran;
+    let end = put_ran(out, at, ran, b' ');
+    let answer = put_number(out, end, r.answer as u64, b' ');
+    let total = put_number(out, answer.at, r.total as u64, b'\n');
+    total.at
+}
+
+// The call that five words are, counted on from a total by the counter that is lent.
+fn count_call(
+    total: usize,
+    head: Head,
+    stack: &mut [u32; 64],
+    words: [u64; 5],
+    text: &[u8],
+) -> CountedCall {
+    let rest = part(text, words[1] as usize, text.len());
+    let own = slice_up_to_len(rest, words[2] as usize);
+    let op = op_at(words[0], words[3], words[4]);
+    count_call_then_len(total, head, stack, op, own)
+}
+
+// What a call answers, the total then, and whether that is 0.
+fn put_counted_call(out: &mut [u8], at: usize, r: CountedCall) -> usize {
+    let step = r.step;
+    let answer = put_next(out, at, step.answer as usize, b' ');
+    let total = put_number(out, answer, r.total as u64, b' ');
+    let empty = put_number(out, total.at, bit(r.empty), b',');
+    empty.at
+}
+
+// How many entries of a formatter are open, and its margin.
+fn put_open(out: &mut [u8], at: usize, head: Head) -> usize {
+    let open = put_next(out, at, head.open_entries(), b' ');
+    let margin = put_number(out, open, head.margin() as u64, b'\n');
+    margin.at
+}
+
+// A run counted call by call on from a total: what each call gives, and the formatter at the end. The
+// head begins with a cursor past the end of no bytes, which would be 9 if the counter did not give the
+// total.
+pub(crate) fn put_calls(
+    out: &mut [u8],
+    at: usize,
+    flags: FormattingFlags,
+    from: usize,
+    calls: &[u64],
+    text: &[u8],
+) -> usize {
+    let past = WriterBackend {
+        counting: 0,
+        number: 1,
+    };
+    let mut stack = [0u32; 64];
+    let mut head = Head::new(past, flags);
+    let mut total = from;
+    let mut end = at;
+    let mut rest = calls;
+    while 5 <= rest.len() {
+        let words = [rest[0], rest[1], rest[2], rest[3], rest[4]];
+        let r = count_call(total, head, &mut stack, words, text);
+        end = put_counted_call(out, end, r);
+        let step = r.step;
+        head = step.head;
+        total = r.total;
+        rest = &rest[5..];
+    }
+    put_open(out, end, head)
 }
 
 // A run counted, and written from a place of 160 dots, by flags for each.
@@ -40,6 +134,61 @@ pub(crate) fn put_both(
         write_run(written, &mut dots, from, calls, text),
         b'\n',
     )
+}
+
+// The end of a run, the answers to its calls as HEX, and a text after them.
+fn put_answers(out: &mut [u8], at: usize, r: Ran, answers: &[u8], after: &[u8]) -> usize {
+    let ran = put_ran(out, at, r, b' ');
+    let bytes = put_hex(out, ran, answers);
+    let end = write_ascii(out, bytes.at, after);
+    end.at
+}
+
+// A run counted, with the answers to its calls.
+fn put_counted_each(
+    out: &mut [u8],
+    at: usize,
+    flags: FormattingFlags,
+    answers: &mut [u8],
+    calls: &[u64],
+    text: &[u8],
+) -> usize {
+    let ran = count_run_each(flags, calls, text, answers);
+    put_answers(out, at, ran, answers, b",")
+}
+
+// A run written into 160 dots, with the answers to its calls.
+fn put_written_each(
+    out: &mut [u8],
+    at: usize,
+    flags: FormattingFlags,
+    answers: &mut [u8],
+    calls: &[u64],
+    text: &[u8],
+) -> usize {
+    let mut dots = [b'.'; 160];
+    let ran = write_run_each(flags, &mut dots, 0, calls, text, answers);
+    put_answers(out, at, ran, answers, b"\n")
+}
+
+// A run counted, and written, with the answers to its calls in n places that hold dots before; `bad`
+// where n is above 160.
+pub(crate) fn put_each(
+    out: &mut [u8],
+    at: usize,
+    flags: FormattingFlags,
+    n: usize,
+    calls: &[u64],
+    text: &[u8],
+) -> usize {
+    if 160 < n {
+        let bad = write_ascii(out, 0, b"bad\n");
+        return bad.at;
+    }
+    let mut counted = [b'.'; 160];
+    let mut written = [b'.'; 160];
+    let end = put_counted_each(out, at, flags, &mut counted[0..n], calls, text);
+    put_written_each(out, end, flags, &mut written[0..n], calls, text)
 }
 
 // The first calls of a run, none and one and so on to all of them.

@@ -26,7 +26,7 @@ use Rattle.sheet_line.specs.Line.{callOfLine}
 use Rattle.sheet.specs.Sheet.{Sheet, freshSheet, Stepped, stepped, endLine, endText}
 use Rattle.lines.specs.Lines.{linesOf}
 use Rattle.sheet.specs.Printed.{printedFrom, printedAfter, printedLines, printed}
-use Rattle.sheet.specs.SheetAgreement.{rowsFrom, sheetAfter, rowsText, AllZero, sheetRows, SheetOf, Shows, SheetAgrees}
+use Rattle.sheet.specs.SheetAgreement.{rowsFrom, sheetAfter, rowsText, AllZero, countingAnswers, writingAnswers, sheetRows, SheetOf, Shows, SheetAgrees}
 
 -- a run that begins has its cursor in the buffer
 module _ (n p : ℕ) (f : FormattingFlags) where
@@ -85,6 +85,14 @@ done-zero : (k : ℕ) (S : Sheet) (cs : List Call) → AllDone (run (S .counted)
 done-zero k S [] a b = tt
 done-zero k S (c ∷ cs) a b = (a .0, b .0, done-zero (suc k) _ cs (a .1) (b .1))
 
+counting-rows : (k : ℕ) (S : Sheet) (cs : List Call) → countingAnswers (rowsFrom k S cs) ≡ run (S .counted) cs .answers
+counting-rows k S [] = refl
+counting-rows k S (c ∷ cs) = ap (λ (l : List ℕ). step (S .counted) c .answer ∷ l) (counting-rows (suc k) _ cs)
+
+writing-rows : (k : ℕ) (S : Sheet) (cs : List Call) → writingAnswers (rowsFrom k S cs) ≡ run (S .written) cs .answers
+writing-rows k S [] = refl
+writing-rows k S (c ∷ cs) = ap (λ (l : List ℕ). step (S .written) c .answer ∷ l) (writing-rows (suc k) _ cs)
+
 -- where every line is a call, a row is printed for each, then the last line
 printed-calls : (k : ℕ) (S : Sheet) (ls : List (List ℕ)) (cs : List Call) → map callOfLine ls ≡ map some cs
     → printedFrom k S ls ≡ rowsText (rowsFrom k S cs) ++ endText (sheetAfter S cs)
@@ -106,8 +114,12 @@ pub sheet-agrees : SheetAgrees
 sheet-agrees input n p f cs S P h =
     record {
       rows = rw (S .lines, S .begins) (printed-calls 2 (freshSheet (replicate n 0) p f) (S .later) cs (S .calls));
-      exactly = (λ z. fits z, λ k. done-zero 2 (freshSheet (replicate n 0) p f) cs (A .0 .done) (W .exactly .1 (room k)));
-      last = λ k. rw (after-counted (freshSheet (replicate n 0) p f) cs, after-written (freshSheet (replicate n 0) p f) cs, A .0 .total, W .cursor (room k), W .bytes (room k), before (room k));
+      exactly = (λ z. fits z, λ k. done-zero 2 S₀ cs (C .done) (W .exactly .1 (room k)));
+      last = λ k. rw (after-counted S₀ cs, after-written S₀ cs, C .output, W .cursor (room k), W .bytes (room k), before (room k));
+      counts = rw (counting-rows 2 S₀ cs) (C .done);
+      total = rw (after-counted S₀ cs, C .output) refl;
+      refused = λ k. rw (writing-rows 2 S₀ cs) (W .refused (omega (arith, size)));
+      before = rw (after-written S₀ cs) (W .before ∙ take-zeros p n inside);
     }
   where
     size : length (replicate {A = ℕ} n 0) ≡ n
@@ -116,11 +128,14 @@ sheet-agrees input n p f cs S P h =
     inside : p ≤ n
     inside = begin-within n p f (S .first) (S .begins)
 
-    A : Counted f cs × ((b : List ℕ) (q : ℕ) → q ≤ length b → Written f cs b q)
-    A = agree f cs P h
+    S₀ : Sheet
+    S₀ = freshSheet (replicate n 0) p f
+
+    C : Counted f cs []
+    C = agree f cs P h .0 []
 
     W : Written f cs (replicate n 0) p
-    W = A .1 (replicate n 0) p (omega (arith, size, inside))
+    W = agree f cs P h .1 (replicate n 0) p (omega (arith, size, inside))
 
     room : p + length (definedText f cs) ≤ n → p + length (definedText f cs) ≤ length (replicate {A = ℕ} n 0)
     room k = omega (arith, size)

@@ -3,12 +3,14 @@ use mathlib.Core.Path.{_≡_}
 use mathlib.Core.Logic.{_↔_}
 use mathlib.Core.List.{List, [], _∷_, _++_, map}
 use mathlib.Core.Option.{some}
-use Prim.Native.Nat.{ℕ, suc, _+_, _≤_}
-use lib.ListN.{length, replicate}
+use Prim.Native.Nat.{ℕ, suc, _+_, _≤_, _<_}
+use lib.ListN.{length, take, replicate}
+use Rattle.error.specs.declared.Answer.the-variants.{NotEnoughSpace}
+use Rattle.error.specs.Answer.{numberOf}
 use Rattle.formatting.specs.declared.flags.FormattingFlags.{FormattingFlags}
 use Rattle.agreement.specs.Call.{Call}
-use Rattle.agreement.specs.Model.{step, most}
-use Rattle.agreement.specs.Agreement.{Proper, definedText}
+use Rattle.agreement.specs.Model.{numberIn, step, most}
+use Rattle.agreement.specs.Agreement.{AllDone, firstRefusal, Proper, definedText}
 use Rattle.sheet_line.specs.declared.begin.Begin.the-variants.{Fresh}
 use Rattle.sheet_line.specs.Begin.{beginOf}
 use Rattle.sheet_line.specs.Line.{callOfLine}
@@ -40,6 +42,15 @@ abbrev pub AllZero : List Row → Type 0
 AllZero [] = Unit {0}
 AllZero (r ∷ rs) = (r .«counting_answer» ≡ 0) × (r .«writing_answer» ≡ 0) × AllZero rs
 
+-- demand 3 on a sheet: the counting answers on the rows, and the writing answers
+abbrev pub countingAnswers : List Row → List ℕ
+countingAnswers [] = []
+countingAnswers (r ∷ rs) = r .«counting_answer» ∷ countingAnswers rs
+
+abbrev pub writingAnswers : List Row → List ℕ
+writingAnswers [] = []
+writingAnswers (r ∷ rs) = r .«writing_answer» ∷ writingAnswers rs
+
 -- demand 3 on a sheet: the rows of a sheet of n bytes and cursor p, from line 2 on
 abbrev pub sheetRows : ℕ → ℕ → FormattingFlags → List Call → List Row
 sheetRows n p f cs = rowsFrom 2 (freshSheet (replicate n 0) p f) cs
@@ -52,12 +63,16 @@ pub record SheetOf (input : List ℕ) (n p : ℕ) (f : FormattingFlags) (cs : Li
   pub begins : beginOf first ≡ Fresh n p f
   pub calls : map callOfLine later ≡ map some cs
 
--- demand 3 on a sheet: it prints a row for each call, then the last line; every answer is 0 exactly when the text fits; and then the last line shows the length of the defined text, the cursor past it, and after the first p bytes the defined text
+-- demand 3 on a sheet: it prints a row for each call, then the last line; every answer is 0 exactly when the text fits; and then the last line shows the length of the defined text, the cursor past it, and after the first p bytes the defined text; in either case every counting answer is 0, the total is that length and the first p bytes are as they were, and where the text does not fit, the first writing refusal is 1
 pub record Shows (input : List ℕ) (n p : ℕ) (f : FormattingFlags) (cs : List Call) : Type 0 where
   pub rows : printed input ≡ rowsText (sheetRows n p f cs) ++ endText (sheetAfter (freshSheet (replicate n 0) p f) cs)
   pub exactly : AllZero (sheetRows n p f cs) ↔ (p + length (definedText f cs) ≤ n)
   pub last : p + length (definedText f cs) ≤ n
       → endText (sheetAfter (freshSheet (replicate n 0) p f) cs) ≡ endLine (length (definedText f cs)) (p + length (definedText f cs)) (replicate p 0 ++ definedText f cs)
+  pub counts : AllDone (countingAnswers (sheetRows n p f cs))
+  pub total : numberIn (sheetAfter (freshSheet (replicate n 0) p f) cs .counted .output .mode) ≡ length (definedText f cs)
+  pub refused : n < p + length (definedText f cs) → firstRefusal (writingAnswers (sheetRows n p f cs)) ≡ numberOf NotEnoughSpace
+  pub before : take p (sheetAfter (freshSheet (replicate n 0) p f) cs .written .output .bytes) ≡ replicate p 0
 
 -- demand 3 on a sheet: for every sheet without `bad` whose run is proper
 abbrev pub SheetAgrees : Type 0

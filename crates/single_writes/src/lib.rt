@@ -1,21 +1,23 @@
 // A static library of single calls, for the comparison with the Rust: each export of this kind in
 // the library of whole runs would keep the compiler from making one loop of a run. A slice passes as
-// a pointer and a length. The answer is document 01's number; flags are a number as in table_text.
+// a pointer and a length. The answer is document 01's number; flags are a number as in table_text,
+// and one that is not below 12 is refused with 8, after 9.
+mod counts;
+mod integers;
+
 ghost use mathlib.Core.Path.{_≡_};
-ghost use mathlib.Core.List.{List, []};
+ghost use mathlib.Core.List.{List};
 ghost use Prim.Native.Nat.{ℕ};
 ghost use lib.IntN.{pos};
+ghost use lib.ListN.{length};
+ghost use Rattle.error.specs.declared.Answer.the-variants.{WrongCall};
+ghost use Rattle.error.specs.Answer.{numberOf};
 ghost use Rattle.formatting.specs.Flags.{defaultFlags};
 ghost use Rattle.str_writer.specs.Value.{integer, char, str, ascii, repeated, display, debug, whole};
 ghost use Rattle.str_writer.specs.Write.{outcome, write};
 ghost use Rattle.str_writer.specs.Truncate.{truncated, truncatedUtf8};
-ghost use Rattle.agreement.specs.Model.{to, wrote, writing, counting};
-ghost use Rattle.formatting.specs.FlagsAsNumber.{flagsOf};
-ghost use Rattle.writer_backend.specs.Output.{countIn};
-ghost use Rattle.value_writes.specs.Values.{valueOut};
-use char_encoding::char_debug_len;
-use char_encoding::char_display_len;
-use char_encoding::is_char;
+ghost use Rattle.agreement.specs.Model.{to, wrote, writing, hold, beyond};
+ghost use Rattle.single_writes.specs.ByFlags.{byFlags, wrongFlags};
 use formatting::flags_of;
 use integer_writes::write_i8_debug;
 use integer_writes::write_i8_display;
@@ -33,11 +35,6 @@ use integer_writes::write_u32_debug;
 use integer_writes::write_u32_display;
 use integer_writes::write_u64_debug;
 use integer_writes::write_u64_display;
-use pwrapper::compute_debug_len_i64;
-use pwrapper::compute_debug_len_u64;
-use pwrapper::compute_display_len_i64;
-use pwrapper::compute_display_len_u64;
-use pwrapper::compute_utf8_debug_len;
 use quoted_writes::write_ascii_debug;
 use quoted_writes::write_ascii_range_debug;
 use quoted_writes::write_str_debug;
@@ -52,8 +49,17 @@ use str_writer::write_char;
 use str_writer::write_char_debug;
 use str_writer::write_str;
 use str_writer::write_str_range;
-use utf8::is_utf8;
 use utils::Range;
+
+// What flags that are no number below 12 are refused with: 9 where the cursor is past a buffer of len bytes, else 8.
+fn no_flags(len: usize, cursor: usize) -> u8
+    ensures { λ r. ⌜ ((b : List ℕ) → length b ≡ len → r ≡ hold (beyond (writing cursor) b) (numberOf WrongCall)) ⌝ }
+{
+    if cursor > len {
+        return 9;
+    }
+    8
+}
 
 // Leaves the cursor in its place, and gives the answer's number.
 fn answered(cursor: &mut usize, w: Written) -> u8
@@ -64,6 +70,7 @@ fn answered(cursor: &mut usize, w: Written) -> u8
     answer.number()
 }
 
+// Writes a string at the cursor.
 #[no_mangle]
 pub extern "C" fn single_write_str(buf: &mut [u8], cursor: &mut usize, s: &[u8]) -> u8
     ensures { λ r. ⌜ to (writing (now (cursor .exit))) (now (buf .exit)) r ≡ wrote (write defaultFlags (now (buf .entry)) (now (cursor .entry)) (str display (now (s .entry)) (whole (now (s .entry))))) ⌝ }
@@ -72,6 +79,7 @@ pub extern "C" fn single_write_str(buf: &mut [u8], cursor: &mut usize, s: &[u8])
     answered(cursor, w)
 }
 
+// Writes the part of a string from start to end at the cursor.
 #[no_mangle]
 pub extern "C" fn single_write_str_range(
     buf: &mut [u8],
@@ -87,6 +95,7 @@ pub extern "C" fn single_write_str_range(
     answered(cursor, w)
 }
 
+// Writes a string, quoted, at the cursor.
 #[no_mangle]
 pub extern "C" fn single_write_str_debug(buf: &mut [u8], cursor: &mut usize, s: &[u8]) -> u8
     ensures { λ r. ⌜ to (writing (now (cursor .exit))) (now (buf .exit)) r ≡ wrote (write defaultFlags (now (buf .entry)) (now (cursor .entry)) (str debug (now (s .entry)) (whole (now (s .entry))))) ⌝ }
@@ -95,6 +104,7 @@ pub extern "C" fn single_write_str_debug(buf: &mut [u8], cursor: &mut usize, s: 
     answered(cursor, w)
 }
 
+// Writes the part of a string from start to end, quoted, at the cursor.
 #[no_mangle]
 pub extern "C" fn single_write_str_range_debug(
     buf: &mut [u8],
@@ -110,6 +120,7 @@ pub extern "C" fn single_write_str_range_debug(
     answered(cursor, w)
 }
 
+// Writes ASCII text at the cursor.
 #[no_mangle]
 pub extern "C" fn single_write_ascii(buf: &mut [u8], cursor: &mut usize, s: &[u8]) -> u8
     ensures { λ r. ⌜ to (writing (now (cursor .exit))) (now (buf .exit)) r ≡ wrote (write defaultFlags (now (buf .entry)) (now (cursor .entry)) (ascii display (now (s .entry)) (whole (now (s .entry))))) ⌝ }
@@ -118,6 +129,7 @@ pub extern "C" fn single_write_ascii(buf: &mut [u8], cursor: &mut usize, s: &[u8
     answered(cursor, w)
 }
 
+// Writes the part of ASCII text from start to end at the cursor.
 #[no_mangle]
 pub extern "C" fn single_write_ascii_range(
     buf: &mut [u8],
@@ -133,6 +145,7 @@ pub extern "C" fn single_write_ascii_range(
     answered(cursor, w)
 }
 
+// Writes ASCII text, quoted, at the cursor.
 #[no_mangle]
 pub extern "C" fn single_write_ascii_debug(buf: &mut [u8], cursor: &mut usize, s: &[u8]) -> u8
     ensures { λ r. ⌜ to (writing (now (cursor .exit))) (now (buf .exit)) r ≡ wrote (write defaultFlags (now (buf .entry)) (now (cursor .entry)) (ascii debug (now (s .entry)) (whole (now (s .entry))))) ⌝ }
@@ -141,6 +154,7 @@ pub extern "C" fn single_write_ascii_debug(buf: &mut [u8], cursor: &mut usize, s
     answered(cursor, w)
 }
 
+// Writes the part of ASCII text from start to end, quoted, at the cursor.
 #[no_mangle]
 pub extern "C" fn single_write_ascii_range_debug(
     buf: &mut [u8],
@@ -156,6 +170,7 @@ pub extern "C" fn single_write_ascii_range_debug(
     answered(cursor, w)
 }
 
+// Writes the low seven bits of a byte n times at the cursor.
 #[no_mangle]
 pub extern "C" fn single_write_ascii_repeated(
     buf: &mut [u8],
@@ -169,6 +184,7 @@ pub extern "C" fn single_write_ascii_repeated(
     answered(cursor, w)
 }
 
+// Writes a character at the cursor.
 #[no_mangle]
 pub extern "C" fn single_write_char(buf: &mut [u8], cursor: &mut usize, c: u32) -> u8
     ensures { λ r. ⌜ to (writing (now (cursor .exit))) (now (buf .exit)) r ≡ wrote (write defaultFlags (now (buf .entry)) (now (cursor .entry)) (char display c)) ⌝ }
@@ -177,6 +193,7 @@ pub extern "C" fn single_write_char(buf: &mut [u8], cursor: &mut usize, c: u32) 
     answered(cursor, w)
 }
 
+// Writes a character, quoted, at the cursor.
 #[no_mangle]
 pub extern "C" fn single_write_char_debug(buf: &mut [u8], cursor: &mut usize, c: u32) -> u8
     ensures { λ r. ⌜ to (writing (now (cursor .exit))) (now (buf .exit)) r ≡ wrote (write defaultFlags (now (buf .entry)) (now (cursor .entry)) (char debug c)) ⌝ }
@@ -185,6 +202,7 @@ pub extern "C" fn single_write_char_debug(buf: &mut [u8], cursor: &mut usize, c:
     answered(cursor, w)
 }
 
+// Writes a u8 at the cursor, in decimal.
 #[no_mangle]
 pub extern "C" fn single_write_u8_display(buf: &mut [u8], cursor: &mut usize, x: u8) -> u8
     ensures { λ r. ⌜ to (writing (now (cursor .exit))) (now (buf .exit)) r ≡ wrote (write defaultFlags (now (buf .entry)) (now (cursor .entry)) (integer display 8 (pos x))) ⌝ }
@@ -193,14 +211,19 @@ pub extern "C" fn single_write_u8_display(buf: &mut [u8], cursor: &mut usize, x:
     answered(cursor, w)
 }
 
+// Writes a u8 at the cursor, in the form that the flags say.
 #[no_mangle]
 pub extern "C" fn single_write_u8_debug(buf: &mut [u8], cursor: &mut usize, x: u8, flags: u64) -> u8
-    ensures { λ r. ⌜ to (writing (now (cursor .exit))) (now (buf .exit)) r ≡ wrote (write (flagsOf flags) (now (buf .entry)) (now (cursor .entry)) (integer debug 8 (pos x))) ⌝ }
+    ensures { λ r. ⌜ to (writing (now (cursor .exit))) (now (buf .exit)) r ≡ byFlags flags (wrongFlags (writing (now (cursor .entry))) (now (buf .entry))) (λ f. wrote (write f (now (buf .entry)) (now (cursor .entry)) (integer debug 8 (pos x)))) ⌝ }
 {
+    if flags >= 12 {
+        return no_flags(buf.len(), *cursor);
+    }
     let w = write_u8_debug(buf, *cursor, x, flags_of(flags));
     answered(cursor, w)
 }
 
+// Writes a u16 at the cursor, in decimal.
 #[no_mangle]
 pub extern "C" fn single_write_u16_display(buf: &mut [u8], cursor: &mut usize, x: u16) -> u8
     ensures { λ r. ⌜ to (writing (now (cursor .exit))) (now (buf .exit)) r ≡ wrote (write defaultFlags (now (buf .entry)) (now (cursor .entry)) (integer display 16 (pos x))) ⌝ }
@@ -209,6 +232,7 @@ pub extern "C" fn single_write_u16_display(buf: &mut [u8], cursor: &mut usize, x
     answered(cursor, w)
 }
 
+// Writes a u16 at the cursor, in the form that the flags say.
 #[no_mangle]
 pub extern "C" fn single_write_u16_debug(
     buf: &mut [u8],
@@ -216,12 +240,16 @@ pub extern "C" fn single_write_u16_debug(
     x: u16,
     flags: u64,
 ) -> u8
-    ensures { λ r. ⌜ to (writing (now (cursor .exit))) (now (buf .exit)) r ≡ wrote (write (flagsOf flags) (now (buf .entry)) (now (cursor .entry)) (integer debug 16 (pos x))) ⌝ }
+    ensures { λ r. ⌜ to (writing (now (cursor .exit))) (now (buf .exit)) r ≡ byFlags flags (wrongFlags (writing (now (cursor .entry))) (now (buf .entry))) (λ f. wrote (write f (now (buf .entry)) (now (cursor .entry)) (integer debug 16 (pos x)))) ⌝ }
 {
+    if flags >= 12 {
+        return no_flags(buf.len(), *cursor);
+    }
     let w = write_u16_debug(buf, *cursor, x, flags_of(flags));
     answered(cursor, w)
 }
 
+// Writes a u32 at the cursor, in decimal.
 #[no_mangle]
 pub extern "C" fn single_write_u32_display(buf: &mut [u8], cursor: &mut usize, x: u32) -> u8
     ensures { λ r. ⌜ to (writing (now (cursor .exit))) (now (buf .exit)) r ≡ wrote (write defaultFlags (now (buf .entry)) (now (cursor .entry)) (integer display 32 (pos x))) ⌝ }
@@ -230,6 +258,7 @@ pub extern "C" fn single_write_u32_display(buf: &mut [u8], cursor: &mut usize, x
     answered(cursor, w)
 }
 
+// Writes a u32 at the cursor, in the form that the flags say.
 #[no_mangle]
 pub extern "C" fn single_write_u32_debug(
     buf: &mut [u8],
@@ -237,12 +266,16 @@ pub extern "C" fn single_write_u32_debug(
     x: u32,
     flags: u64,
 ) -> u8
-    ensures { λ r. ⌜ to (writing (now (cursor .exit))) (now (buf .exit)) r ≡ wrote (write (flagsOf flags) (now (buf .entry)) (now (cursor .entry)) (integer debug 32 (pos x))) ⌝ }
+    ensures { λ r. ⌜ to (writing (now (cursor .exit))) (now (buf .exit)) r ≡ byFlags flags (wrongFlags (writing (now (cursor .entry))) (now (buf .entry))) (λ f. wrote (write f (now (buf .entry)) (now (cursor .entry)) (integer debug 32 (pos x)))) ⌝ }
 {
+    if flags >= 12 {
+        return no_flags(buf.len(), *cursor);
+    }
     let w = write_u32_debug(buf, *cursor, x, flags_of(flags));
     answered(cursor, w)
 }
 
+// Writes a u64 at the cursor, in decimal.
 #[no_mangle]
 pub extern "C" fn single_write_u64_display(buf: &mut [u8], cursor: &mut usize, x: u64) -> u8
     ensures { λ r. ⌜ to (writing (now (cursor .exit))) (now (buf .exit)) r ≡ wrote (write defaultFlags (now (buf .entry)) (now (cursor .entry)) (integer display 64 (pos x))) ⌝ }
@@ -251,6 +284,7 @@ pub extern "C" fn single_write_u64_display(buf: &mut [u8], cursor: &mut usize, x
     answered(cursor, w)
 }
 
+// Writes a u64 at the cursor, in the form that the flags say.
 #[no_mangle]
 pub extern "C" fn single_write_u64_debug(
     buf: &mut [u8],
@@ -258,12 +292,16 @@ pub extern "C" fn single_write_u64_debug(
     x: u64,
     flags: u64,
 ) -> u8
-    ensures { λ r. ⌜ to (writing (now (cursor .exit))) (now (buf .exit)) r ≡ wrote (write (flagsOf flags) (now (buf .entry)) (now (cursor .entry)) (integer debug 64 (pos x))) ⌝ }
+    ensures { λ r. ⌜ to (writing (now (cursor .exit))) (now (buf .exit)) r ≡ byFlags flags (wrongFlags (writing (now (cursor .entry))) (now (buf .entry))) (λ f. wrote (write f (now (buf .entry)) (now (cursor .entry)) (integer debug 64 (pos x)))) ⌝ }
 {
+    if flags >= 12 {
+        return no_flags(buf.len(), *cursor);
+    }
     let w = write_u64_debug(buf, *cursor, x, flags_of(flags));
     answered(cursor, w)
 }
 
+// Writes an i8 at the cursor, in decimal.
 #[no_mangle]
 pub extern "C" fn single_write_i8_display(buf: &mut [u8], cursor: &mut usize, x: i8) -> u8
     ensures { λ r. ⌜ to (writing (now (cursor .exit))) (now (buf .exit)) r ≡ wrote (write defaultFlags (now (buf .entry)) (now (cursor .entry)) (integer display 8 x)) ⌝ }
@@ -272,14 +310,19 @@ pub extern "C" fn single_write_i8_display(buf: &mut [u8], cursor: &mut usize, x:
     answered(cursor, w)
 }
 
+// Writes an i8 at the cursor, in the form that the flags say.
 #[no_mangle]
 pub extern "C" fn single_write_i8_debug(buf: &mut [u8], cursor: &mut usize, x: i8, flags: u64) -> u8
-    ensures { λ r. ⌜ to (writing (now (cursor .exit))) (now (buf .exit)) r ≡ wrote (write (flagsOf flags) (now (buf .entry)) (now (cursor .entry)) (integer debug 8 x)) ⌝ }
+    ensures { λ r. ⌜ to (writing (now (cursor .exit))) (now (buf .exit)) r ≡ byFlags flags (wrongFlags (writing (now (cursor .entry))) (now (buf .entry))) (λ f. wrote (write f (now (buf .entry)) (now (cursor .entry)) (integer debug 8 x))) ⌝ }
 {
+    if flags >= 12 {
+        return no_flags(buf.len(), *cursor);
+    }
     let w = write_i8_debug(buf, *cursor, x, flags_of(flags));
     answered(cursor, w)
 }
 
+// Writes an i16 at the cursor, in decimal.
 #[no_mangle]
 pub extern "C" fn single_write_i16_display(buf: &mut [u8], cursor: &mut usize, x: i16) -> u8
     ensures { λ r. ⌜ to (writing (now (cursor .exit))) (now (buf .exit)) r ≡ wrote (write defaultFlags (now (buf .entry)) (now (cursor .entry)) (integer display 16 x)) ⌝ }
@@ -288,6 +331,7 @@ pub extern "C" fn single_write_i16_display(buf: &mut [u8], cursor: &mut usize, x
     answered(cursor, w)
 }
 
+// Writes an i16 at the cursor, in the form that the flags say.
 #[no_mangle]
 pub extern "C" fn single_write_i16_debug(
     buf: &mut [u8],
@@ -295,12 +339,16 @@ pub extern "C" fn single_write_i16_debug(
     x: i16,
     flags: u64,
 ) -> u8
-    ensures { λ r. ⌜ to (writing (now (cursor .exit))) (now (buf .exit)) r ≡ wrote (write (flagsOf flags) (now (buf .entry)) (now (cursor .entry)) (integer debug 16 x)) ⌝ }
+    ensures { λ r. ⌜ to (writing (now (cursor .exit))) (now (buf .exit)) r ≡ byFlags flags (wrongFlags (writing (now (cursor .entry))) (now (buf .entry))) (λ f. wrote (write f (now (buf .entry)) (now (cursor .entry)) (integer debug 16 x))) ⌝ }
 {
+    if flags >= 12 {
+        return no_flags(buf.len(), *cursor);
+    }
     let w = write_i16_debug(buf, *cursor, x, flags_of(flags));
     answered(cursor, w)
 }
 
+// Writes an i32 at the cursor, in decimal.
 #[no_mangle]
 pub extern "C" fn single_write_i32_display(buf: &mut [u8], cursor: &mut usize, x: i32) -> u8
     ensures { λ r. ⌜ to (writing (now (cursor .exit))) (now (buf .exit)) r ≡ wrote (write defaultFlags (now (buf .entry)) (now (cursor .entry)) (integer display 32 x)) ⌝ }
@@ -309,6 +357,7 @@ pub extern "C" fn single_write_i32_display(buf: &mut [u8], cursor: &mut usize, x
     answered(cursor, w)
 }
 
+// Writes an i32 at the cursor, in the form that the flags say.
 #[no_mangle]
 pub extern "C" fn single_write_i32_debug(
     buf: &mut [u8],
@@ -316,12 +365,16 @@ pub extern "C" fn single_write_i32_debug(
     x: i32,
     flags: u64,
 ) -> u8
-    ensures { λ r. ⌜ to (writing (now (cursor .exit))) (now (buf .exit)) r ≡ wrote (write (flagsOf flags) (now (buf .entry)) (now (cursor .entry)) (integer debug 32 x)) ⌝ }
+    ensures { λ r. ⌜ to (writing (now (cursor .exit))) (now (buf .exit)) r ≡ byFlags flags (wrongFlags (writing (now (cursor .entry))) (now (buf .entry))) (λ f. wrote (write f (now (buf .entry)) (now (cursor .entry)) (integer debug 32 x))) ⌝ }
 {
+    if flags >= 12 {
+        return no_flags(buf.len(), *cursor);
+    }
     let w = write_i32_debug(buf, *cursor, x, flags_of(flags));
     answered(cursor, w)
 }
 
+// Writes an i64 at the cursor, in decimal.
 #[no_mangle]
 pub extern "C" fn single_write_i64_display(buf: &mut [u8], cursor: &mut usize, x: i64) -> u8
     ensures { λ r. ⌜ to (writing (now (cursor .exit))) (now (buf .exit)) r ≡ wrote (write defaultFlags (now (buf .entry)) (now (cursor .entry)) (integer display 64 x)) ⌝ }
@@ -330,6 +383,7 @@ pub extern "C" fn single_write_i64_display(buf: &mut [u8], cursor: &mut usize, x
     answered(cursor, w)
 }
 
+// Writes an i64 at the cursor, in the form that the flags say.
 #[no_mangle]
 pub extern "C" fn single_write_i64_debug(
     buf: &mut [u8],
@@ -337,12 +391,16 @@ pub extern "C" fn single_write_i64_debug(
     x: i64,
     flags: u64,
 ) -> u8
-    ensures { λ r. ⌜ to (writing (now (cursor .exit))) (now (buf .exit)) r ≡ wrote (write (flagsOf flags) (now (buf .entry)) (now (cursor .entry)) (integer debug 64 x)) ⌝ }
+    ensures { λ r. ⌜ to (writing (now (cursor .exit))) (now (buf .exit)) r ≡ byFlags flags (wrongFlags (writing (now (cursor .entry))) (now (buf .entry))) (λ f. wrote (write f (now (buf .entry)) (now (cursor .entry)) (integer debug 64 x))) ⌝ }
 {
+    if flags >= 12 {
+        return no_flags(buf.len(), *cursor);
+    }
     let w = write_i64_debug(buf, *cursor, x, flags_of(flags));
     answered(cursor, w)
 }
 
+// Takes the cursor back to a length; one past the cursor changes nothing.
 #[no_mangle]
 pub extern "C" fn single_truncate(buf: &[u8], cursor: &mut usize, length: usize) -> u8
     ensures { λ r. ⌜ to (writing (now (cursor .exit))) (now (buf .entry)) r ≡ wrote (outcome (truncated (now (buf .entry)) (now (cursor .entry)) length) (now (buf .entry))) ⌝ }
@@ -351,96 +409,11 @@ pub extern "C" fn single_truncate(buf: &[u8], cursor: &mut usize, length: usize)
     answered(cursor, w)
 }
 
+// The same, refused with 3 where the length is inside a character.
 #[no_mangle]
 pub extern "C" fn single_truncate_utf8(buf: &[u8], cursor: &mut usize, length: usize) -> u8
     ensures { λ r. ⌜ to (writing (now (cursor .exit))) (now (buf .entry)) r ≡ wrote (outcome (truncatedUtf8 (now (buf .entry)) (now (cursor .entry)) length) (now (buf .entry))) ⌝ }
 {
     let w = truncate_utf8(buf, *cursor, length);
     answered(cursor, w)
-}
-
-// Adds a length to a total, or gives 6 where that would pass 2^64 - 1.
-fn add(total: &mut usize, len: usize) -> u8
-    ensures { λ r. ⌜ to (counting (now (total .exit))) [] r ≡ countIn (record { counting = 1; number = now (total .entry) }) [] len ⌝ }
-{
-    if len <= usize::MAX - *total {
-        *total += len;
-        return 0;
-    }
-    6
-}
-
-#[no_mangle]
-pub extern "C" fn single_count_u64_display(total: &mut usize, x: u64) -> u8
-    ensures { λ r. ⌜ to (counting (now (total .exit))) [] r ≡ valueOut (record { counting = 1; number = now (total .entry) }) [] defaultFlags (integer display 64 (pos x)) ⌝ }
-{
-    add(total, compute_display_len_u64(x))
-}
-
-#[no_mangle]
-pub extern "C" fn single_count_u64_debug(total: &mut usize, x: u64, flags: u64) -> u8
-    ensures { λ r. ⌜ to (counting (now (total .exit))) [] r ≡ valueOut (record { counting = 1; number = now (total .entry) }) [] (flagsOf flags) (integer debug 64 (pos x)) ⌝ }
-{
-    add(total, compute_debug_len_u64(x, flags_of(flags)))
-}
-
-#[no_mangle]
-pub extern "C" fn single_count_i64_display(total: &mut usize, x: i64) -> u8
-    ensures { λ r. ⌜ to (counting (now (total .exit))) [] r ≡ valueOut (record { counting = 1; number = now (total .entry) }) [] defaultFlags (integer display 64 x) ⌝ }
-{
-    add(total, compute_display_len_i64(x))
-}
-
-#[no_mangle]
-pub extern "C" fn single_count_i64_debug(total: &mut usize, x: i64, flags: u64) -> u8
-    ensures { λ r. ⌜ to (counting (now (total .exit))) [] r ≡ valueOut (record { counting = 1; number = now (total .entry) }) [] (flagsOf flags) (integer debug 64 x) ⌝ }
-{
-    add(total, compute_debug_len_i64(x, flags_of(flags)))
-}
-
-#[no_mangle]
-pub extern "C" fn single_count_char(total: &mut usize, c: u32) -> u8
-    ensures { λ r. ⌜ to (counting (now (total .exit))) [] r ≡ valueOut (record { counting = 1; number = now (total .entry) }) [] defaultFlags (char display c) ⌝ }
-{
-    if !is_char(c) {
-        return 5;
-    }
-    let e = char_display_len(c);
-    add(total, e.len)
-}
-
-#[no_mangle]
-pub extern "C" fn single_count_char_debug(total: &mut usize, c: u32) -> u8
-    ensures { λ r. ⌜ to (counting (now (total .exit))) [] r ≡ valueOut (record { counting = 1; number = now (total .entry) }) [] defaultFlags (char debug c) ⌝ }
-{
-    if !is_char(c) {
-        return 5;
-    }
-    let e = char_debug_len(c);
-    add(total, e.len)
-}
-
-#[no_mangle]
-pub extern "C" fn single_count_str(total: &mut usize, s: &[u8]) -> u8
-    ensures { λ r. ⌜ to (counting (now (total .exit))) [] r ≡ valueOut (record { counting = 1; number = now (total .entry) }) [] defaultFlags (str display (now (s .entry)) (whole (now (s .entry)))) ⌝ }
-{
-    if !is_utf8(s) {
-        return 4;
-    }
-    add(total, s.len())
-}
-
-#[no_mangle]
-pub extern "C" fn single_count_str_debug(total: &mut usize, s: &[u8]) -> u8
-    ensures { λ r. ⌜ to (counting (now (total .exit))) [] r ≡ valueOut (record { counting = 1; number = now (total .entry) }) [] defaultFlags (str debug (now (s .entry)) (whole (now (s .entry)))) ⌝ }
-{
-    if !is_utf8(s) {
-        return 4;
-    }
-    let quoted = compute_utf8_debug_len(s);
-    let len = quoted.len;
-    if len == 0 {
-        return 6;
-    }
-    add(total, len)
 }

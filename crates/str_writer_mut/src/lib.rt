@@ -5,7 +5,7 @@ ghost use Rattle.formatting.specs.Flags.{defaultFlags};
 ghost use Rattle.str_writer.specs.Truncate.{truncated, truncatedUtf8};
 ghost use Rattle.str_writer.specs.Value.{str, display, debug, whole};
 ghost use Rattle.str_writer.specs.Write.{outcome, write};
-ghost use Rattle.str_writer_mut.specs.Writer.{Gives, GivesTwice};
+ghost use Rattle.str_writer_mut.specs.Writer.{Gives, GivesTwice, GivesTruncated};
 use error::Answer;
 use str_writer::Written;
 
@@ -110,5 +110,38 @@ pub fn write_str_then_debug(buffer: &mut [u8], length: usize, s: &[u8], t: &[u8]
         at: w.len,
         first,
         second,
+    }
+}
+
+// What a write and two truncations answer, the length between the two, and where the cursor then is.
+pub struct Truncated {
+    pub at: usize,
+    pub len: usize,
+    pub written: Answer,
+    pub plain: Answer,
+    pub utf8: Answer,
+}
+
+// A string through a cleared writer, truncated without an encoding and then for UTF-8: its parameters
+// are plain, as those of write_str_then_debug. Both truncations are tried also where the write is refused.
+pub fn write_str_then_truncate(
+    buffer: &mut [u8],
+    s: &[u8],
+    length: usize,
+    utf8_length: usize,
+) -> Truncated
+    ensures { λ r. ⌜ GivesTruncated r (now (buffer .exit)) (write defaultFlags (now (buffer .entry)) 0 (str display (now (s .entry)) (whole (now (s .entry))))) length «utf8_length» ⌝ }
+{
+    let mut w = StrWriterMut::from_custom_cleared(buffer);
+    let written = w.write_str(s);
+    let plain = w.truncate(length);
+    let len = w.len();
+    let utf8 = w.truncate_utf8(utf8_length);
+    Truncated {
+        at: w.len,
+        len,
+        written,
+        plain,
+        utf8,
     }
 }

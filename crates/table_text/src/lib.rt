@@ -1,24 +1,73 @@
 // The static library that a sender links: a run of calls as numbers over a pool of texts, counted or
 // written. A slice passes as a pointer and a length. The answer is the run's first refusal by
 // document 01's number, 0 for none. Flags are a number below 12: 4 for hexadecimal or 8 for binary,
-// plus 2 for lower digits, plus 1 for alternate.
+// plus 2 for lower digits, plus 1 for alternate; a run with others answers 8, after 9, and plays
+// nothing.
 ghost use mathlib.Core.Path.{_≡_};
 ghost use mathlib.Core.List.{[]};
-ghost use Rattle.agreement.specs.Model.{start, counting, writing, beyond};
+ghost use Prim.Native.Nat.{_<_};
+ghost use Rattle.agreement.specs.Model.{counting, writing};
 ghost use Rattle.formatting.specs.FlagsAsNumber.{flagsOf};
 ghost use Rattle.encoded_call.specs.Encoding.{decode};
-ghost use Rattle.run.specs.Played.{Played, playFrom, CountAgrees, WriteAgrees};
+ghost use Rattle.run.specs.Played.{endCounted, endWritten, stored, CountAgrees, WriteAgrees, WritesAsCounted};
+ghost use Rattle.table_text.specs.Exported.{countEnd, countAnswers, writeEnd, writeAnswers};
 use formatting::flags_of;
-use run::count_run;
-use run::write_run;
+use run::Ran;
+use run::count_run_each;
+use run::write_run_each;
+
+// A run counted, with each call's answer as far as there is room.
+fn count(flags: u64, calls: &[u64], text: &[u8], answers: &mut [u8]) -> Ran
+    ensures { λ r. ⌜ endCounted r ≡ countEnd flags (now (calls .entry)) (now (text .entry)) ⌝ }
+    ensures { λ _. ⌜ now (answers .exit) ≡ stored (now (answers .entry)) (countAnswers flags (now (calls .entry)) (now (text .entry))) ⌝ }
+    ensures { λ r. ⌜ (flags < 12 → CountAgrees (flagsOf flags) (decode (now (calls .entry)) (now (text .entry))) (r .first) (r .number)) ⌝ }
+{
+    if 11 < flags {
+        return Ran {
+            first: 8,
+            number: 0,
+            place: 0,
+            entries: 0,
+        };
+    }
+    count_run_each(flags_of(flags), calls, text, answers)
+}
+
+// A run written, with each call's answer as far as there is room.
+fn write(
+    flags: u64,
+    buf: &mut [u8],
+    at: usize,
+    calls: &[u64],
+    text: &[u8],
+    answers: &mut [u8],
+) -> Ran
+    ensures { λ r. ⌜ endWritten r (now (buf .exit)) ≡ writeEnd flags (now (buf .entry)) at (now (calls .entry)) (now (text .entry)) ⌝ }
+    ensures { λ _. ⌜ now (answers .exit) ≡ stored (now (answers .entry)) (writeAnswers flags (now (buf .entry)) at (now (calls .entry)) (now (text .entry))) ⌝ }
+    ensures { λ r. ⌜ (flags < 12 → WriteAgrees (flagsOf flags) (decode (now (calls .entry)) (now (text .entry))) (now (buf .entry)) at (r .first) (r .number) (now (buf .exit))) ⌝ }
+    ensures { λ r. ⌜ WritesAsCounted (countEnd flags (now (calls .entry)) (now (text .entry))) (flagsOf flags) (decode (now (calls .entry)) (now (text .entry))) (now (buf .entry)) at (r .first) (r .number) (now (buf .exit)) ⌝ }
+{
+    if 11 < flags {
+        let first = if buf.len() < at { 9 } else { 8 };
+        return Ran {
+            first,
+            number: at,
+            place: 0,
+            entries: 0,
+        };
+    }
+    write_run_each(flags_of(flags), buf, at, calls, text, answers)
+}
 
 // Counts a run: its total is left in total.
 #[no_mangle]
 pub extern "C" fn table_text_count(flags: u64, calls: &[u64], text: &[u8], total: &mut usize) -> u8
-    ensures { λ r. ⌜ _≡_ {A = Played} (record { first = r; output = record { mode = counting (now (total .exit)); bytes = [] } }) (playFrom 0 (start (counting 0) [] (flagsOf flags)) (decode (now (calls .entry)) (now (text .entry)))) ⌝ }
-    ensures { λ r. ⌜ CountAgrees (flagsOf flags) (decode (now (calls .entry)) (now (text .entry))) (record { first = r; number = now (total .exit) }) ⌝ }
+    ensures { λ r. ⌜ r ≡ countEnd flags (now (calls .entry)) (now (text .entry)) .first ⌝ }
+    ensures { λ _. ⌜ record { mode = counting (now (total .exit)); bytes = [] } ≡ countEnd flags (now (calls .entry)) (now (text .entry)) .output ⌝ }
+    ensures { λ r. ⌜ (flags < 12 → CountAgrees (flagsOf flags) (decode (now (calls .entry)) (now (text .entry))) r (now (total .exit))) ⌝ }
 {
-    let r = count_run(flags_of(flags), calls, text);
+    let mut none = [0u8; 0];
+    let r = count(flags, calls, text, &mut none);
     *total = r.number;
     r.first
 }
@@ -32,10 +81,61 @@ pub extern "C" fn table_text_write(
     calls: &[u64],
     text: &[u8],
 ) -> u8
-    ensures { λ r. ⌜ _≡_ {A = Played} (record { first = r; output = record { mode = writing (now (cursor .exit)); bytes = now (buf .exit) } }) (playFrom (beyond (writing (now (cursor .entry))) (now (buf .entry))) (start (writing (now (cursor .entry))) (now (buf .entry)) (flagsOf flags)) (decode (now (calls .entry)) (now (text .entry)))) ⌝ }
-    ensures { λ r. ⌜ WriteAgrees (flagsOf flags) (decode (now (calls .entry)) (now (text .entry))) (now (buf .entry)) (now (cursor .entry)) (record { first = r; number = now (cursor .exit) }) (now (buf .exit)) ⌝ }
+    ensures { λ r. ⌜ r ≡ writeEnd flags (now (buf .entry)) (now (cursor .entry)) (now (calls .entry)) (now (text .entry)) .first ⌝ }
+    ensures { λ _. ⌜ record { mode = writing (now (cursor .exit)); bytes = now (buf .exit) } ≡ writeEnd flags (now (buf .entry)) (now (cursor .entry)) (now (calls .entry)) (now (text .entry)) .output ⌝ }
+    ensures { λ r. ⌜ (flags < 12 → WriteAgrees (flagsOf flags) (decode (now (calls .entry)) (now (text .entry))) (now (buf .entry)) (now (cursor .entry)) r (now (cursor .exit)) (now (buf .exit))) ⌝ }
+    ensures { λ r. ⌜ WritesAsCounted (countEnd flags (now (calls .entry)) (now (text .entry))) (flagsOf flags) (decode (now (calls .entry)) (now (text .entry))) (now (buf .entry)) (now (cursor .entry)) r (now (cursor .exit)) (now (buf .exit)) ⌝ }
 {
-    let r = write_run(flags_of(flags), buf, *cursor, calls, text);
+    let mut none = [0u8; 0];
+    let r = write(flags, buf, *cursor, calls, text, &mut none);
     *cursor = r.number;
+    r.first
+}
+
+// Counts a run: beside its total, how many entries it leaves open and each call's answer, as far as
+// there is room.
+#[no_mangle]
+pub extern "C" fn table_text_count_each(
+    flags: u64,
+    calls: &[u64],
+    text: &[u8],
+    total: &mut usize,
+    entries: &mut usize,
+    answers: &mut [u8],
+) -> u8
+    ensures { λ r. ⌜ r ≡ countEnd flags (now (calls .entry)) (now (text .entry)) .first ⌝ }
+    ensures { λ _. ⌜ record { mode = counting (now (total .exit)); bytes = [] } ≡ countEnd flags (now (calls .entry)) (now (text .entry)) .output ⌝ }
+    ensures { λ r. ⌜ (flags < 12 → CountAgrees (flagsOf flags) (decode (now (calls .entry)) (now (text .entry))) r (now (total .exit))) ⌝ }
+    ensures { λ _. ⌜ now (entries .exit) ≡ countEnd flags (now (calls .entry)) (now (text .entry)) .entries ⌝ }
+    ensures { λ _. ⌜ now (answers .exit) ≡ stored (now (answers .entry)) (countAnswers flags (now (calls .entry)) (now (text .entry))) ⌝ }
+{
+    let r = count(flags, calls, text, answers);
+    *total = r.number;
+    *entries = r.entries;
+    r.first
+}
+
+// Writes a run: beside its cursor, how many entries it leaves open and each call's answer, as far as
+// there is room.
+#[no_mangle]
+pub extern "C" fn table_text_write_each(
+    flags: u64,
+    buf: &mut [u8],
+    cursor: &mut usize,
+    calls: &[u64],
+    text: &[u8],
+    entries: &mut usize,
+    answers: &mut [u8],
+) -> u8
+    ensures { λ r. ⌜ r ≡ writeEnd flags (now (buf .entry)) (now (cursor .entry)) (now (calls .entry)) (now (text .entry)) .first ⌝ }
+    ensures { λ _. ⌜ record { mode = writing (now (cursor .exit)); bytes = now (buf .exit) } ≡ writeEnd flags (now (buf .entry)) (now (cursor .entry)) (now (calls .entry)) (now (text .entry)) .output ⌝ }
+    ensures { λ r. ⌜ (flags < 12 → WriteAgrees (flagsOf flags) (decode (now (calls .entry)) (now (text .entry))) (now (buf .entry)) (now (cursor .entry)) r (now (cursor .exit)) (now (buf .exit))) ⌝ }
+    ensures { λ r. ⌜ WritesAsCounted (countEnd flags (now (calls .entry)) (now (text .entry))) (flagsOf flags) (decode (now (calls .entry)) (now (text .entry))) (now (buf .entry)) (now (cursor .entry)) r (now (cursor .exit)) (now (buf .exit)) ⌝ }
+    ensures { λ _. ⌜ now (entries .exit) ≡ writeEnd flags (now (buf .entry)) (now (cursor .entry)) (now (calls .entry)) (now (text .entry)) .entries ⌝ }
+    ensures { λ _. ⌜ now (answers .exit) ≡ stored (now (answers .entry)) (writeAnswers flags (now (buf .entry)) (now (cursor .entry)) (now (calls .entry)) (now (text .entry))) ⌝ }
+{
+    let r = write(flags, buf, *cursor, calls, text, answers);
+    *cursor = r.number;
+    *entries = r.entries;
     r.first
 }

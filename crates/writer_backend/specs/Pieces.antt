@@ -28,7 +28,7 @@ abbrev pub marginPieces : Bool → ℕ → List (List ℕ)
 marginPieces false m = []
 marginPieces true m = spaces m ∷ []
 
--- Document 01, 'Rust forms that cannot come along': the place that its kind and a name are
+-- Document 01, 'A nested record', field or entry: the place that its kind and a name are
 abbrev pub placeOf : PlaceKind → List ℕ → Place
 placeOf Field s = field s
 placeOf Item s = item

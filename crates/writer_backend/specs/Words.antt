@@ -4,6 +4,6 @@ use Prim.Native.Nat.{ℕ}
 use lib.ListN.{take}
 use Rattle.writer_backend.specs.declared.words.Word.{Word}
 
--- Document 01, 'Rust forms that cannot come along': the bytes of a word
+-- docs/DECISIONS.md, 'The formatter': the bytes of a word
 abbrev pub textOfWord : Word → List ℕ
 textOfWord w = take (w .len) (w .bytes)

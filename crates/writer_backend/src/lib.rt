@@ -7,7 +7,6 @@ mod words;
 pub use pieces::WriterBackend;
 pub use pieces::Wrote;
 pub use pieces::add_len;
-pub use pieces::first;
 pub use pieces::from_written;
 pub use pieces::past;
 pub use pieces::put;

@@ -108,7 +108,7 @@ pub fn put_word(m: WriterBackend, buf: &mut [u8], w: Word) -> Wrote
 }
 
 // The first refusal of two answers.
-pub fn first(held: u8, answer: u8) -> u8
+fn first(held: u8, answer: u8) -> u8
     ensures { λ r. ⌜ r ≡ hold held answer ⌝ }
 {
     if held == 0 {

@@ -2,6 +2,7 @@
 // gives. Each prints itself, then what the function under test gives for it.
 mod cursor;
 mod integers;
+mod lent;
 mod print;
 mod texts;
 
@@ -14,6 +15,8 @@ use fields::place_of;
 use fields::same;
 use integers::debug_call;
 use integers::display_call;
+use lent::truncate_call;
+use lent::twice_call;
 use libc::STDIN_FILENO;
 use libc::STDOUT_FILENO;
 use line_input::read_more;
@@ -28,7 +31,6 @@ use texts::char_call;
 use texts::range_call;
 use texts::repeated_call;
 use texts::text_call;
-use texts::twice_call;
 use utils::slice_up_to_len;
 
 // Plays a write by its name.
@@ -88,6 +90,9 @@ fn case(line: &[u8], out: &mut [u8], end: usize) -> usize {
     let k = place_of(name, b"from_custom,truncate");
     if k < 2 {
         return cursor_call(k, rest, out, end);
+    }
+    if same(name, b"write_str_then_truncate") {
+        return truncate_call(rest, out, end);
     }
     let Number::Is(len) = number(first_field(rest), u64::MAX) else {
         return 0;

@@ -1,7 +1,5 @@
 // Writes of text: strings, ASCII text, characters, a repeated byte. k is the place of the name among
 // those with the same arguments.
-use crate::print::put_cell;
-use crate::print::put_result;
 use fields::HexBytes;
 use fields::Number;
 use fields::first_field;
@@ -9,7 +7,6 @@ use fields::from_hex;
 use fields::later_fields;
 use fields::number;
 use str_writer::Written;
-use str_writer_mut::write_str_then_debug;
 use utils::Range;
 use utils::slice_up_to_len;
 
@@ -102,29 +99,4 @@ pub(crate) fn repeated_call(arguments: &[u8], buf: &mut [u8], at: usize) -> Play
         return Played::Other;
     }
     Played::Gave(str_writer::write_ascii_repeated(buf, at, c as u8, n as usize))
-}
-
-// `HEX,HEX`: a string and after it a quoted string through the lent writer. Lays both answers, the
-// cursor and the bytes of the buffer; 0 for a line of another form.
-pub(crate) fn twice_call(
-    arguments: &[u8],
-    buf: &mut [u8],
-    at: usize,
-    out: &mut [u8],
-    end: usize,
-) -> usize {
-    let mut first_space = [0u8; 72];
-    let mut second_space = [0u8; 72];
-    let HexBytes::Are(n) = from_hex(first_field(arguments), &mut first_space) else {
-        return 0;
-    };
-    let HexBytes::Are(m) = from_hex(later_fields(arguments), &mut second_space) else {
-        return 0;
-    };
-    let s = slice_up_to_len(&first_space, n);
-    let w = write_str_then_debug(buf, at, s, slice_up_to_len(&second_space, m));
-    let first = w.first;
-    let answer = w.second;
-    let end = put_cell(out, end, b"", first.number() as usize, b' ');
-    put_result(out, end, Written { at: w.at, answer }, buf)
 }

@@ -1,55 +1,71 @@
 use mathlib.Core.Path.{_≡_, refl, ap, _∙_}
-use Prim.Native.Nat.{_+_, _-_, _≤_}
+use Prim.Native.Nat.{ℕ, _+_, _-_, _*_, _/_, _≤_}
 use native.Mathlib.Omega.{arith}
 use lib.ListN.{length, drop, getD, length-drop}
 use borrow.Author.Needs.{needs}
-use Rattle.agreement.specs.Model.{State, beyond}
 use Rattle.writer_backend.specs.Output.{modeOf}
 use Rattle.formatter.specs.View.{view}
 use Rattle.encoded_call.specs.Encoding.{callAt, decode}
-use Rattle.run.specs.Played.{playFrom}
-use Rattle.run.proofs.Playing.{decode-next, decode-end, play-next}
+use Rattle.run.specs.Played.{runOr}
+use Rattle.run.proofs.Playing.{decode-next, decode-end, rest, noted-words, play-next, play-end}
 use Rattle.run.proofs.play.Statement.{statement}
 use Rattle.run.proofs.play.Tie as tie
 
 abbrev Inv-loop : tie.InvT-loop
-Inv-loop buf₀ calls text stack₀ head₀ over refusal₀ i₀ buf stack head refusal i =
-    (i ≤ length calls) × (length buf ≡ length buf₀)
-    × (playFrom refusal (view head stack buf) (decode (drop i calls) text) ≡ playFrom refusal₀ (view head₀ stack₀ buf₀) (decode calls text))
+Inv-loop buf₀ calls text answers₀ first₀ place₀ stack₀ head₀ i₀ len buf answers first place stack head i =
+    (i ≤ length calls / 5 * 5) × (i ≡ i / 5 * 5) × (length buf ≡ length buf₀) × (length answers ≡ length answers₀)
+    × (rest first (place / 5) (i / 5) answers (runOr (view head stack buf) (decode (drop i calls) text)) ≡ rest first₀ 0 0 answers₀ (runOr (view head₀ stack₀ buf₀) (decode calls text)))
 
 abbrev μ-loop : tie.MeasureT-loop
-μ-loop buf₀ calls text stack₀ head₀ over refusal₀ i₀ buf stack head refusal i = length calls - i
+μ-loop buf₀ calls text answers₀ first₀ place₀ stack₀ head₀ i₀ len buf answers first place stack head i = length calls - i
 
 loop-holds : tie.Need-loop-holds Inv-loop μ-loop
-loop-holds c = (omega arith, refl, refl)
+loop-holds c = (omega arith, omega arith, refl, refl, refl)
 
 add-i : tie.Need-add-i Inv-loop μ-loop
-add-i c = omega (arith, c .before .before .before .before .before .before .before .before .before .before .before .before .loop-test .taken, c .before .before .before .before .before .before .before .before .before .before .before .before .before .loop .inv .0, c .before .before .before .before .before .before .before .before .before .before .before .before .before .before .before .before .before .before .before .before .good .1 .1 .1 .0)
+add-i c =
+    let at-test = c .before .before .before .before .before .before .before .before .before .before .before .before .before .before .before .before .before .before in
+    omega (arith, at-test .loop-test .taken, at-test .before .loop .inv .1, at-test .before .before .before .before .before .before .before .before .before .good .1 .1 .1 .0)
 
 loop-less : tie.Need-loop-less Inv-loop μ-loop
-loop-less c = omega (arith, c .before .before .before .before .before .before .before .before .before .before .before .before .loop-test .taken)
+loop-less c =
+    let at-test = c .before .before .before .before .before .before .before .before .before .before .before .before .before .before .before .before .before .before in
+    omega (arith, at-test .loop-test .taken, at-test .before .loop .inv .1)
 
 loop-again : tie.Need-loop-again Inv-loop μ-loop
 loop-again c =
-    let h = c .before .before .before .before .before .before .before .before .before .before .before .before .before .loop in
-    let a = c .before .before .before .before .before .before .before .before .before .before .before .before .before .before .before .before .before .before .before .before .args in
-    let l = c .before .before .before .before .before .before .before .before .before .before .before .before .loop-test .taken in
-    let r = c .before .before .before .before .call-at in
+    let at-note = c .before .before .before .before in
+    let at-call = at-note .before .before .before .before .before .before in
+    let at-test = at-call .before .before .before .before .before .before .before .before in
+    let h = at-test .before .loop in
+    let a = at-test .before .before .before .before .before .before .before .before .before .args in
+    let l = at-test .loop-test .taken in
+    let r = at-call .call-at in
+    let f = at-note .note in
+    let t = c .before .before .store in
     let w = a .calls .now in
-    let t = a .text .now in
-    let e = rw (decode-next w t (h .i) (omega arith)) at (h .inv .2) in
-    let n = play-next (h .refusal) (view (h .head) (h .stack) (h .buf)) (callAt (getD w (h .i) 0) (getD w (h .i + 1) 0) (getD w (h .i + 2) 0) (getD w (h .i + 3) 0) (getD w (h .i + 4) 0) t) (decode (drop (h .i + 5) w) t) _ (c .first .result) (r .ensures) (c .first .ensures) in
-    (omega arith, r .kept .1 .1 .0 ∙ h .inv .1, n ∙ e)
+    let s = a .text .now in
+    let i = h .i in
+    let e = rw (decode-next w s i (omega arith)) at (h .inv .4) in
+    let u : (i + 5) / 5 ≡ i / 5 + 1 = omega arith in
+    let q = ap (λ (x : ℕ). x / 5) (f .ensures .1) ∙ noted-words (h .first) (r .result .answer) i (h .place) in
+    let n = play-next (h .first) (h .place / 5) (i / 5) (h .answers) (view (h .head) (h .stack) (h .buf)) (callAt (getD w i 0) (getD w (i + 1) 0) (getD w (i + 2) 0) (getD w (i + 3) 0) (getD w (i + 4) 0) s) (decode (drop (i + 5) w) s) _ _ _ _ (r .ensures) (f .ensures .0) q (t .ensures) in
+    (omega arith, omega arith, r .kept .1 .1 .0 ∙ h .inv .2, t .kept .0 ∙ h .inv .3, rw u (n ∙ e))
 
 same-length : tie.Need-same-length Inv-loop μ-loop
-same-length c = c .before .before .loop .inv .1
+same-length c = c .before .before .before .loop .inv .2
+
+same-length-2 : tie.Need-same-length-2 Inv-loop μ-loop
+same-length-2 c = c .before .before .before .loop .inv .3
 
 returns : tie.Need-returns Inv-loop μ-loop
 returns c =
-    let h = c .before .before .loop in
-    let a = c .before .before .before .before .before .before .before .before .before .args in
-    let e = rw (decode-end (drop (h .i) (a .calls .now)) (a .text .now) (simp length-drop (omega arith)), c .before .before .before .past .ensures) at (h .inv .2) in
-    e ∙ ap (λ (F : State). playFrom (beyond (modeOf (a .mode)) (a .buf .now)) F (decode (a .calls .now) (a .text .now))) (c .before .before .before .before .before .new .ensures _ (a .buf .now))
+    let at-loop = c .before .before .before in
+    let h = at-loop .loop in
+    let a = at-loop .before .before .before .before .before .before .before .before .args in
+    let e = rw (decode-end (drop (h .i) (a .calls .now)) (a .text .now) (simp length-drop (omega arith))) at (h .inv .4) in
+    let n : length (a .calls .now) / 5 ≡ h .i / 5 = omega arith in
+    play-end (modeOf (a .mode)) (a .buf .now) (a .flags) (decode (a .calls .now) (a .text .now)) (a .answers .now) _ _ (at-loop .before .before .before .new .ensures _ (a .buf .now)) (at-loop .before .past .ensures) (h .first) (h .place / 5) (h .i / 5) (h .answers) (view (h .head) (h .stack) (h .buf)) _ _ (rw n refl) (c .open-entries .ensures (h .stack) (h .buf)) e
 
 pub play-spec : {M : Type 1} → statement M
-play-spec = tie.close (tie.spec Inv-loop μ-loop (λ c κs. search needs) (λ c κs. search needs) loop-holds (λ c. search needs) (λ c. search needs) (λ c. search needs) (λ c. search needs) (λ c. search needs) (λ c. search needs) (λ c. search needs) (λ c. search needs) (λ c. search needs) (λ c. search needs) (λ c. search needs) (λ c. search needs) (λ c. search needs) (λ c. search needs) (λ c. search needs) (λ c κs. search needs) (λ c κs. search needs) add-i loop-less loop-again same-length returns)
+play-spec = tie.close (tie.spec Inv-loop μ-loop (λ c κs. search needs) (λ c κs. search needs) (λ c. omega arith) loop-holds (λ c. search needs) (λ c. search needs) (λ c. search needs) (λ c. search needs) (λ c. search needs) (λ c. search needs) (λ c. search needs) (λ c. search needs) (λ c. search needs) (λ c. search needs) (λ c. search needs) (λ c. search needs) (λ c. search needs) (λ c. search needs) (λ c κs. search needs) (λ c κs. search needs) (λ c κs. search needs) add-i loop-less loop-again (λ c κs. search needs) same-length same-length-2 returns)

@@ -13,7 +13,10 @@ returns-3 : tie.Need-returns-3
 returns-3 c = search needs
 
 returns-4 : tie.Need-returns-4
-returns-4 c = set-of (c .before .before .before .args .n) (c .before .before .if1 .left) (c .before .if2 .left) (c .if3 .left)
+returns-4 c =
+    let at-if1 = c .before .before in
+    let at-args = at-if1 .before in
+    set-of (at-args .args .n) (at-if1 .if1 .left) (c .before .if2 .left) (c .if3 .left)
 
 pub kind-of-spec : {M : Type 1} → statement M
 kind-of-spec = tie.close (tie.spec returns returns-2 returns-3 returns-4)

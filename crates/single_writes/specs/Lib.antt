@@ -1,0 +1,2 @@
+pub mod ByFlags
+pub mod Laid

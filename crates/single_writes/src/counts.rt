@@ -1,0 +1,246 @@
+// Single values counted: the length of a value added to a total, which is kept where the answer is a refusal.
+ghost use mathlib.Core.Path.{_≡_};
+ghost use mathlib.Core.List.{[]};
+ghost use lib.IntN.{pos};
+ghost use Rattle.formatting.specs.Flags.{defaultFlags};
+ghost use Rattle.str_writer.specs.Value.{integer, char, str, display, debug, whole};
+ghost use Rattle.agreement.specs.Model.{to, counting};
+ghost use Rattle.writer_backend.specs.Output.{countIn};
+ghost use Rattle.value_writes.specs.Values.{valueOut};
+ghost use Rattle.single_writes.specs.ByFlags.{byFlags, wrongFlags, from};
+use char_encoding::char_debug_len;
+use char_encoding::char_display_len;
+use char_encoding::is_char;
+use formatting::flags_of;
+use pwrapper::compute_debug_len_i8;
+use pwrapper::compute_debug_len_i16;
+use pwrapper::compute_debug_len_i32;
+use pwrapper::compute_debug_len_i64;
+use pwrapper::compute_debug_len_u8;
+use pwrapper::compute_debug_len_u16;
+use pwrapper::compute_debug_len_u32;
+use pwrapper::compute_debug_len_u64;
+use pwrapper::compute_display_len_i8;
+use pwrapper::compute_display_len_i16;
+use pwrapper::compute_display_len_i32;
+use pwrapper::compute_display_len_i64;
+use pwrapper::compute_display_len_u8;
+use pwrapper::compute_display_len_u16;
+use pwrapper::compute_display_len_u32;
+use pwrapper::compute_display_len_u64;
+use pwrapper::compute_utf8_debug_len;
+use utf8::is_utf8;
+
+// Adds a length to a total, or gives 6 where that would pass 2^64 - 1.
+fn add(total: &mut usize, len: usize) -> u8
+    ensures { λ r. ⌜ to (counting (now (total .exit))) [] r ≡ countIn (from (now (total .entry))) [] len ⌝ }
+{
+    if len <= usize::MAX - *total {
+        *total += len;
+        return 0;
+    }
+    6
+}
+
+// Counts a u8 in decimal.
+#[no_mangle]
+pub extern "C" fn single_count_u8_display(total: &mut usize, x: u8) -> u8
+    ensures { λ r. ⌜ to (counting (now (total .exit))) [] r ≡ valueOut (from (now (total .entry))) [] defaultFlags (integer display 8 (pos x)) ⌝ }
+{
+    add(total, compute_display_len_u8(x))
+}
+
+// Counts a u8 in the form that the flags say.
+#[no_mangle]
+pub extern "C" fn single_count_u8_debug(total: &mut usize, x: u8, flags: u64) -> u8
+    ensures { λ r. ⌜ to (counting (now (total .exit))) [] r ≡ byFlags flags (wrongFlags (counting (now (total .entry))) []) (λ f. valueOut (from (now (total .entry))) [] f (integer debug 8 (pos x))) ⌝ }
+{
+    if flags >= 12 {
+        return 8;
+    }
+    add(total, compute_debug_len_u8(x, flags_of(flags)))
+}
+
+// Counts a u16 in decimal.
+#[no_mangle]
+pub extern "C" fn single_count_u16_display(total: &mut usize, x: u16) -> u8
+    ensures { λ r. ⌜ to (counting (now (total .exit))) [] r ≡ valueOut (from (now (total .entry))) [] defaultFlags (integer display 16 (pos x)) ⌝ }
+{
+    add(total, compute_display_len_u16(x))
+}
+
+// Counts a u16 in the form that the flags say.
+#[no_mangle]
+pub extern "C" fn single_count_u16_debug(total: &mut usize, x: u16, flags: u64) -> u8
+    ensures { λ r. ⌜ to (counting (now (total .exit))) [] r ≡ byFlags flags (wrongFlags (counting (now (total .entry))) []) (λ f. valueOut (from (now (total .entry))) [] f (integer debug 16 (pos x))) ⌝ }
+{
+    if flags >= 12 {
+        return 8;
+    }
+    add(total, compute_debug_len_u16(x, flags_of(flags)))
+}
+
+// Counts a u32 in decimal.
+#[no_mangle]
+pub extern "C" fn single_count_u32_display(total: &mut usize, x: u32) -> u8
+    ensures { λ r. ⌜ to (counting (now (total .exit))) [] r ≡ valueOut (from (now (total .entry))) [] defaultFlags (integer display 32 (pos x)) ⌝ }
+{
+    add(total, compute_display_len_u32(x))
+}
+
+// Counts a u32 in the form that the flags say.
+#[no_mangle]
+pub extern "C" fn single_count_u32_debug(total: &mut usize, x: u32, flags: u64) -> u8
+    ensures { λ r. ⌜ to (counting (now (total .exit))) [] r ≡ byFlags flags (wrongFlags (counting (now (total .entry))) []) (λ f. valueOut (from (now (total .entry))) [] f (integer debug 32 (pos x))) ⌝ }
+{
+    if flags >= 12 {
+        return 8;
+    }
+    add(total, compute_debug_len_u32(x, flags_of(flags)))
+}
+
+// Counts a u64 in decimal.
+#[no_mangle]
+pub extern "C" fn single_count_u64_display(total: &mut usize, x: u64) -> u8
+    ensures { λ r. ⌜ to (counting (now (total .exit))) [] r ≡ valueOut (from (now (total .entry))) [] defaultFlags (integer display 64 (pos x)) ⌝ }
+{
+    add(total, compute_display_len_u64(x))
+}
+
+// Counts a u64 in the form that the flags say.
+#[no_mangle]
+pub extern "C" fn single_count_u64_debug(total: &mut usize, x: u64, flags: u64) -> u8
+    ensures { λ r. ⌜ to (counting (now (total .exit))) [] r ≡ byFlags flags (wrongFlags (counting (now (total .entry))) []) (λ f. valueOut (from (now (total .entry))) [] f (integer debug 64 (pos x))) ⌝ }
+{
+    if flags >= 12 {
+        return 8;
+    }
+    add(total, compute_debug_len_u64(x, flags_of(flags)))
+}
+
+// Counts an i8 in decimal.
+#[no_mangle]
+pub extern "C" fn single_count_i8_display(total: &mut usize, x: i8) -> u8
+    ensures { λ r. ⌜ to (counting (now (total .exit))) [] r ≡ valueOut (from (now (total .entry))) [] defaultFlags (integer display 8 x) ⌝ }
+{
+    add(total, compute_display_len_i8(x))
+}
+
+// Counts an i8 in the form that the flags say.
+#[no_mangle]
+pub extern "C" fn single_count_i8_debug(total: &mut usize, x: i8, flags: u64) -> u8
+    ensures { λ r. ⌜ to (counting (now (total .exit))) [] r ≡ byFlags flags (wrongFlags (counting (now (total .entry))) []) (λ f. valueOut (from (now (total .entry))) [] f (integer debug 8 x)) ⌝ }
+{
+    if flags >= 12 {
+        return 8;
+    }
+    add(total, compute_debug_len_i8(x, flags_of(flags)))
+}
+
+// Counts an i16 in decimal.
+#[no_mangle]
+pub extern "C" fn single_count_i16_display(total: &mut usize, x: i16) -> u8
+    ensures { λ r. ⌜ to (counting (now (total .exit))) [] r ≡ valueOut (from (now (total .entry))) [] defaultFlags (integer display 16 x) ⌝ }
+{
+    add(total, compute_display_len_i16(x))
+}
+
+// Counts an i16 in the form that the flags say.
+#[no_mangle]
+pub extern "C" fn single_count_i16_debug(total: &mut usize, x: i16, flags: u64) -> u8
+    ensures { λ r. ⌜ to (counting (now (total .exit))) [] r ≡ byFlags flags (wrongFlags (counting (now (total .entry))) []) (λ f. valueOut (from (now (total .entry))) [] f (integer debug 16 x)) ⌝ }
+{
+    if flags >= 12 {
+        return 8;
+    }
+    add(total, compute_debug_len_i16(x, flags_of(flags)))
+}
+
+// Counts an i32 in decimal.
+#[no_mangle]
+pub extern "C" fn single_count_i32_display(total: &mut usize, x: i32) -> u8
+    ensures { λ r. ⌜ to (counting (now (total .exit))) [] r ≡ valueOut (from (now (total .entry))) [] defaultFlags (integer display 32 x) ⌝ }
+{
+    add(total, compute_display_len_i32(x))
+}
+
+// Counts an i32 in the form that the flags say.
+#[no_mangle]
+pub extern "C" fn single_count_i32_debug(total: &mut usize, x: i32, flags: u64) -> u8
+    ensures { λ r. ⌜ to (counting (now (total .exit))) [] r ≡ byFlags flags (wrongFlags (counting (now (total .entry))) []) (λ f. valueOut (from (now (total .entry))) [] f (integer debug 32 x)) ⌝ }
+{
+    if flags >= 12 {
+        return 8;
+    }
+    add(total, compute_debug_len_i32(x, flags_of(flags)))
+}
+
+// Counts an i64 in decimal.
+#[no_mangle]
+pub extern "C" fn single_count_i64_display(total: &mut usize, x: i64) -> u8
+    ensures { λ r. ⌜ to (counting (now (total .exit))) [] r ≡ valueOut (from (now (total .entry))) [] defaultFlags (integer display 64 x) ⌝ }
+{
+    add(total, compute_display_len_i64(x))
+}
+
+// Counts an i64 in the form that the flags say.
+#[no_mangle]
+pub extern "C" fn single_count_i64_debug(total: &mut usize, x: i64, flags: u64) -> u8
+    ensures { λ r. ⌜ to (counting (now (total .exit))) [] r ≡ byFlags flags (wrongFlags (counting (now (total .entry))) []) (λ f. valueOut (from (now (total .entry))) [] f (integer debug 64 x)) ⌝ }
+{
+    if flags >= 12 {
+        return 8;
+    }
+    add(total, compute_debug_len_i64(x, flags_of(flags)))
+}
+
+// Counts a character.
+#[no_mangle]
+pub extern "C" fn single_count_char(total: &mut usize, c: u32) -> u8
+    ensures { λ r. ⌜ to (counting (now (total .exit))) [] r ≡ valueOut (from (now (total .entry))) [] defaultFlags (char display c) ⌝ }
+{
+    if !is_char(c) {
+        return 5;
+    }
+    let e = char_display_len(c);
+    add(total, e.len)
+}
+
+// Counts a character, quoted.
+#[no_mangle]
+pub extern "C" fn single_count_char_debug(total: &mut usize, c: u32) -> u8
+    ensures { λ r. ⌜ to (counting (now (total .exit))) [] r ≡ valueOut (from (now (total .entry))) [] defaultFlags (char debug c) ⌝ }
+{
+    if !is_char(c) {
+        return 5;
+    }
+    let e = char_debug_len(c);
+    add(total, e.len)
+}
+
+// Counts a string.
+#[no_mangle]
+pub extern "C" fn single_count_str(total: &mut usize, s: &[u8]) -> u8
+    ensures { λ r. ⌜ to (counting (now (total .exit))) [] r ≡ valueOut (from (now (total .entry))) [] defaultFlags (str display (now (s .entry)) (whole (now (s .entry)))) ⌝ }
+{
+    if !is_utf8(s) {
+        return 4;
+    }
+    add(total, s.len())
+}
+
+// Counts a string, quoted.
+#[no_mangle]
+pub extern "C" fn single_count_str_debug(total: &mut usize, s: &[u8]) -> u8
+    ensures { λ r. ⌜ to (counting (now (total .exit))) [] r ≡ valueOut (from (now (total .entry))) [] defaultFlags (str debug (now (s .entry)) (whole (now (s .entry)))) ⌝ }
+{
+    if !is_utf8(s) {
+        return 4;
+    }
+    let quoted = compute_utf8_debug_len(s);
+    let len = quoted.len;
+    if len == 0 {
+        return 6;
+    }
+    add(total, len)
+}
