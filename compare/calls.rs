@@ -1,7 +1,8 @@
 //! The calls of a run, played through const_format, and the words that they are for our library.
 #![allow(dead_code)]
 
-use const_format::wrapper_types::AsciiStr;
+use const_format::pargument::{Integer, PConvWrapper};
+use const_format::wrapper_types::{AsciiStr, PWrapper};
 use const_format::{ComputeStrLength, Error, Formatter, FormattingFlags, StrWriterMut};
 
 /// A value. `debug` picks the debug form; a width w stands for 8 << w bits.
@@ -192,10 +193,29 @@ macro_rules! play_value {
     };
 }
 
-/// What is left of a run, and the answers so far.
+/// What a run gave: the answer to each call, the total or the cursor, the entries that it left open,
+/// how many of these are builders, and the margin at its end. There is no margin where a builder is
+/// innermost that has no field: it holds the formatter then, and gives it to nobody.
+#[derive(Clone, Debug)]
+pub struct Played {
+    pub answers: Vec<u8>,
+    pub number: usize,
+    pub open: usize,
+    pub builders: usize,
+    pub margin: Option<usize>,
+}
+
+impl Played {
+    pub fn first(&self) -> u8 {
+        self.answers.iter().copied().find(|a| *a != 0).unwrap_or(0)
+    }
+}
+
+/// What is left of a run, and what it gave so far.
 struct Player<'c> {
     calls: &'c [Call],
-    answers: Vec<u8>,
+    ended: bool,
+    so_far: Played,
 }
 
 /// A builder's fields, each with what is written into it, and its finish. A run that ends inside
@@ -203,40 +223,73 @@ struct Player<'c> {
 macro_rules! play_builder {
     ($self:ident, $open:expr, |$b:ident, $call:ident| $field:expr) => {{
         let mut $b = $open;
-        $self.answers.push(0);
-        while let [$call, rest @ ..] = $self.calls {
-            $self.calls = rest;
+        $self.opened(true);
+        loop {
+            let Some($call) = $self.next() else {
+                break $self.end(None);
+            };
             if let Call::Finish = $call {
-                $self.answers.push(number($b.finish()));
-                break;
+                let answer = number($b.finish());
+                break $self.closed(true, answer);
             }
             let f = $field;
-            $self.answers.push(0);
+            $self.so_far.answers.push(0);
             $self.play(f);
         }
     }};
 }
 
-impl Player<'_> {
+impl<'c> Player<'c> {
+    fn next(&mut self) -> Option<&'c Call> {
+        let (call, rest) = self.calls.split_first()?;
+        self.calls = rest;
+        Some(call)
+    }
+
+    fn opened(&mut self, builder: bool) {
+        self.so_far.answers.push(0);
+        self.so_far.open += 1;
+        self.so_far.builders += builder as usize;
+    }
+
+    fn closed(&mut self, builder: bool, answer: u8) {
+        self.so_far.answers.push(answer);
+        self.so_far.open -= 1;
+        self.so_far.builders -= builder as usize;
+    }
+
+    /// The end of the calls, where the innermost entry tells the margin; the entries outside say
+    /// nothing more.
+    fn end(&mut self, margin: Option<usize>) {
+        if !self.ended {
+            self.ended = true;
+            self.so_far.margin = margin;
+        }
+    }
+
     /// Plays values and openings, up to a call of the entry outside.
     fn play(&mut self, f: &mut Formatter<'_>) {
-        while let [call, rest @ ..] = self.calls {
-            match call {
-                Call::Field(_) | Call::Item | Call::Entry | Call::Finish | Call::EndSub => return,
-                _ => self.calls = rest,
+        loop {
+            if let Some(Call::Field(_) | Call::Item | Call::Entry | Call::Finish | Call::EndSub) =
+                self.calls.first()
+            {
+                return;
             }
+            let Some(call) = self.next() else {
+                return self.end(Some(f.margin()));
+            };
             match call {
                 Call::Value(v) => {
                     let answer = play_value!(f, v);
-                    self.answers.push(number(answer));
+                    self.so_far.answers.push(number(answer));
                 }
                 Call::Sub(flags) => {
-                    self.answers.push(0);
+                    self.opened(false);
                     let mut inner = f.make_formatter(flags_of(*flags));
                     self.play(&mut inner);
-                    if let [Call::EndSub, rest @ ..] = self.calls {
-                        self.calls = rest;
-                        self.answers.push(0);
+                    if let Some(Call::EndSub) = self.calls.first() {
+                        self.next();
+                        self.closed(false, 0);
                     }
                 }
                 Call::Open(0, name) => play_builder!(self, f.debug_struct(name), |b, c| match c {
@@ -252,33 +305,43 @@ impl Player<'_> {
     }
 }
 
-fn play(f: &mut Formatter<'_>, run: &[Call]) -> Vec<u8> {
+/// Plays a run; the number is left for the caller.
+fn play(f: &mut Formatter<'_>, run: &[Call]) -> Played {
     let mut player = Player {
         calls: run,
-        answers: Vec::with_capacity(run.len()),
+        ended: false,
+        so_far: Played {
+            answers: Vec::with_capacity(run.len()),
+            number: 0,
+            open: 0,
+            builders: 0,
+            margin: None,
+        },
     };
     player.play(f);
-    assert_eq!(player.answers.len(), run.len());
-    player.answers
+    assert!(player.ended && player.so_far.answers.len() == run.len());
+    player.so_far
 }
 
-pub fn first_refusal(answers: &[u8]) -> u8 {
-    answers.iter().copied().find(|a| *a != 0).unwrap_or(0)
-}
-
-/// The answers of a run counted by const_format, and its total.
-pub fn rust_count(run: &[Call], flags: u64) -> (Vec<u8>, usize) {
+/// A run counted by const_format: the number is its total.
+pub fn rust_count(run: &[Call], flags: u64) -> Played {
     let mut counter = ComputeStrLength::new();
-    let answers = play(&mut counter.make_formatter(flags_of(flags)), run);
-    (answers, counter.len())
+    let played = play(&mut counter.make_formatter(flags_of(flags)), run);
+    Played {
+        number: counter.len(),
+        ..played
+    }
 }
 
-/// The answers of a run written by const_format, and its cursor.
-pub fn rust_write(run: &[Call], flags: u64, buf: &mut [u8], at: usize) -> (Vec<u8>, usize) {
+/// A run written by const_format: the number is its cursor.
+pub fn rust_write(run: &[Call], flags: u64, buf: &mut [u8], at: usize) -> Played {
     let mut cursor = at;
     let mut writer = StrWriterMut::from_custom(buf, &mut cursor);
-    let answers = play(&mut writer.make_formatter(flags_of(flags)), run);
-    (answers, cursor)
+    let played = play(&mut writer.make_formatter(flags_of(flags)), run);
+    Played {
+        number: cursor,
+        ..played
+    }
 }
 
 /// A single write of const_format's writer.
@@ -302,4 +365,71 @@ pub fn rust_truncate_utf8(buf: &mut [u8], s: &str, length: usize) -> (u8, usize)
     w.write_str(s).expect("it fits");
     let answer = w.truncate(length);
     (number(answer), cursor)
+}
+
+/// An integer of a width, from its bits.
+macro_rules! by_width {
+    ($signed:expr, $width:expr, $n:expr, |$x:ident| $e:expr) => {
+        match ($signed, $width) {
+            (false, 0) => {
+                let $x = $n as u8;
+                $e
+            }
+            (false, 1) => {
+                let $x = $n as u16;
+                $e
+            }
+            (false, 2) => {
+                let $x = $n as u32;
+                $e
+            }
+            (false, _) => {
+                let $x = $n;
+                $e
+            }
+            (true, 0) => {
+                let $x = $n as i8;
+                $e
+            }
+            (true, 1) => {
+                let $x = $n as i16;
+                $e
+            }
+            (true, 2) => {
+                let $x = $n as i32;
+                $e
+            }
+            (true, _) => {
+                let $x = $n as i64;
+                $e
+            }
+        }
+    };
+}
+
+/// The length of an integer by const_format's own function, displayed or by the flags.
+pub fn rust_length(signed: bool, width: u64, n: u64, debug: bool, flags: u64) -> usize {
+    by_width!(signed, width, n, |x| if debug {
+        PWrapper(x).compute_debug_len(flags_of(flags))
+    } else {
+        PWrapper(x).compute_display_len(flags_of(flags))
+    })
+}
+
+/// An integer's sign, absolute value and mask.
+pub fn rust_integer(signed: bool, width: u64, n: u64) -> Integer {
+    by_width!(signed, width, n, |x| PConvWrapper(x).to_integer())
+}
+
+/// The array of an `Integer` from `start` on: binary, hexadecimal, and in decimal.
+pub fn rust_arrays(i: Integer, flags: u64) -> [Vec<u8>; 3] {
+    let flags = flags_of(flags);
+    let b = PWrapper(i).to_start_array_binary(flags);
+    let h = PWrapper(i).to_start_array_hexadecimal(flags);
+    let d = PWrapper(i).to_start_array_display();
+    [
+        b.array[b.start..].to_vec(),
+        h.array[h.start..].to_vec(),
+        d.array[d.start..].to_vec(),
+    ]
 }

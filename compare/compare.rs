@@ -1,39 +1,38 @@
 //! Runs of calls, single writes and truncations through const_format and through our static
-//! libraries. Small inputs are tried whole, the rest by chance from a seed. Compared are the first
-//! refusal, the total or cursor, and every byte of the buffer, which has non-zero contents before.
+//! libraries. Small inputs are tried whole, the rest by chance from a seed. Compared are the answer
+//! to every call, the total or cursor, the open entries, the margin, and every byte of the buffer,
+//! which has non-zero contents before.
 //!
 //! compare SEED COUNT: compares, with COUNT runs by chance. compare --sample COUNT SEED: prints runs
 //! with const_format's answers, one to a line, for crates/rust_replay.
 
+#[path = "alone.rs"]
+mod alone;
 #[path = "calls.rs"]
 mod calls;
 #[path = "library.rs"]
 mod library;
+#[path = "random.rs"]
+mod random;
+#[path = "single.rs"]
+mod single;
 
 use calls::*;
 use const_format::ComputeStrLength;
-
-/// xorshift64*
-struct Random(u64);
-
-impl Random {
-    fn next(&mut self) -> u64 {
-        self.0 ^= self.0 << 13;
-        self.0 ^= self.0 >> 7;
-        self.0 ^= self.0 << 17;
-        self.0.wrapping_mul(0x2545_F491_4F6C_DD1D)
-    }
-
-    fn below(&mut self, n: u64) -> u64 {
-        (self.next() >> 11) % n
-    }
-}
+use library::{Each, UNTOUCHED};
+use random::{random_place, random_run, Random};
+use single::{edges, signed, single, single_count, to_integer};
 
 #[derive(Default)]
 struct Tally {
     compared: u64,
     differ: u64,
     refused: [u64; 10],
+    later: u64,
+    open: u64,
+    margins: u64,
+    in_full: u64,
+    left_high: u64,
 }
 
 impl Tally {
@@ -54,6 +53,7 @@ impl Tally {
     }
 }
 
+/// A buffer with non-zero contents.
 fn contents(size: usize) -> Vec<u8> {
     (0..size).map(|i| (i * 37 + 91) as u8).collect()
 }
@@ -63,36 +63,130 @@ fn sizes(n: usize, at: usize) -> impl Iterator<Item = usize> {
     (at + n).saturating_sub(1).max(at)..=at + n + 1
 }
 
+/// What our library should say of every call where const_format played a run, with two places for
+/// answers behind the calls.
+fn each_of(theirs: &Played) -> Each {
+    let mut answers = theirs.answers.clone();
+    answers.extend([UNTOUCHED; 2]);
+    Each {
+        first: theirs.first(),
+        number: theirs.number,
+        open: theirs.open,
+        answers,
+    }
+}
+
+/// The run with a list's first entry behind it, in a sub-formatter with the alternate flag: `[`, a
+/// line feed, and the margin in spaces, which the list has raised by 4.
+fn with_entry(words: &Encoded) -> Encoded {
+    let end = words.text.len() as u64;
+    let mut calls = words.calls.clone();
+    calls.extend([8, end, 0, 1, 0]);
+    calls.extend([2, end, 0, 0, 0]);
+    calls.extend([6, end, 0, 0, 0]);
+    Encoded {
+        calls,
+        text: words.text.clone(),
+    }
+}
+
+/// The margin that `Formatter::margin` gives at the end of a run, where it can be asked and two more
+/// entries may be opened.
+fn asked_margin(t: &mut Tally, theirs: &Played) -> Option<usize> {
+    let margin = theirs.margin.filter(|_| theirs.open <= 62)?;
+    t.margins += 1;
+    Some(margin)
+}
+
 /// A run counted by both.
 fn compare_count(t: &mut Tally, run: &[Call], words: &Encoded, flags: u64) -> usize {
-    let (answers, total) = rust_count(run, flags);
+    let theirs = rust_count(run, flags);
     let ours = library::count(flags, &words.calls, &words.text);
-    t.same(
-        ours,
-        (first_refusal(&answers), total),
-        "counted",
-        &(flags, run),
-    );
-    total
+    let input = (flags, run);
+    t.same(ours, (theirs.first(), theirs.number), "counted", &input);
+    let each = library::count_each(flags, &words.calls, &words.text, run.len() + 2);
+    t.same(each, each_of(&theirs), "each counted", &input);
+    if let Some(margin) = asked_margin(t, &theirs) {
+        let more = with_entry(words);
+        let ours = library::count(flags, &more.calls, &more.text).1;
+        t.in_full += 1;
+        t.same(
+            ours,
+            theirs.number + 2 + margin + 4,
+            "margin counted",
+            &input,
+        );
+    }
+    theirs.number
 }
 
 /// A run written by both.
 fn compare_write(t: &mut Tally, run: &[Call], words: &Encoded, flags: u64, size: usize, at: usize) {
+    let mut bytes = contents(size);
+    let theirs = rust_write(run, flags, &mut bytes, at);
+    let input = (flags, size, at, run);
+    t.refused[theirs.first().min(9) as usize] += 1;
+    t.later += theirs
+        .answers
+        .iter()
+        .skip_while(|a| **a == 0)
+        .count()
+        .saturating_sub(1) as u64;
+    t.open += (theirs.open > 0) as u64;
     let mut ours = contents(size);
-    let mut theirs = ours.clone();
-    let (answers, cursor) = rust_write(run, flags, &mut theirs, at);
-    let first = first_refusal(&answers);
     let r = library::write(flags, &words.calls, &words.text, &mut ours, at);
-    t.refused[first.min(9) as usize] += 1;
     t.same(
-        (r, ours),
-        ((first, cursor), theirs),
+        (r, &ours),
+        ((theirs.first(), theirs.number), &bytes),
         "written",
+        &input,
+    );
+    let mut ours = contents(size);
+    let room = run.len() + 2;
+    let each = library::write_each(flags, &words.calls, &words.text, &mut ours, at, room);
+    t.same(
+        (each, &ours),
+        (each_of(&theirs), &bytes),
+        "each written",
+        &input,
+    );
+    if let Some(margin) = asked_margin(t, &theirs) {
+        let in_full = 2 + margin + 4 <= size - theirs.number;
+        t.in_full += in_full as u64;
+        t.left_high += (in_full && margin > 4 * theirs.builders) as u64;
+        compare_written_margin(t, run, words, flags, at, (theirs.number, bytes, margin));
+    }
+}
+
+/// The margin at the end of a run that was written. Where there is no room for its spaces they are
+/// refused, so that no more than that is seen.
+fn compare_written_margin(
+    t: &mut Tally,
+    run: &[Call],
+    words: &Encoded,
+    flags: u64,
+    at: usize,
+    (mut cursor, mut bytes, margin): (usize, Vec<u8>, usize),
+) {
+    let size = bytes.len();
+    for piece in [b"[\n".to_vec(), vec![b' '; margin + 4]] {
+        if piece.len() <= size - cursor {
+            bytes[cursor..cursor + piece.len()].copy_from_slice(&piece);
+            cursor += piece.len();
+        }
+    }
+    let more = with_entry(words);
+    let mut ours = contents(size);
+    let r = library::write(flags, &more.calls, &more.text, &mut ours, at);
+    t.same(
+        (r.1, ours),
+        (cursor, bytes),
+        "margin written",
         &(flags, size, at, run),
     );
 }
 
-/// Every prefix of a run: with it, the answer, total, cursor and bytes after each call.
+/// Every prefix of a run: with it the total, cursor, open entries, margin and bytes after each call.
 fn compare_prefixes(
     t: &mut Tally,
     run: &[Call],
@@ -119,6 +213,16 @@ fn compare_value(t: &mut Tally, v: &Value, flags: u64) {
     if let Some(ours) = single_count(v, flags) {
         t.same(ours, (0, total), "counted alone", &(flags, v));
     }
+    let length = match *v {
+        Value::Unsigned { debug, width, n } => Some((false, debug, width, n)),
+        Value::Signed { debug, width, x } => Some((true, debug, width, x as u64)),
+        _ => None,
+    };
+    if let Some((signed, debug, width, n)) = length {
+        let theirs = rust_length(signed, width, n, debug, flags);
+        let ours = single_count(v, flags).expect("an integer has a count");
+        t.same(ours, (0, theirs), "length", &(flags, v));
+    }
     for at in [0, 3] {
         for size in sizes(total, at) {
             compare_write(t, &run, &words, flags, size, at);
@@ -141,168 +245,89 @@ fn compare_single(t: &mut Tally, v: &Value, flags: u64, size: usize, at: usize) 
     );
 }
 
-/// A single write of our library.
-fn single(v: &Value, flags: u64, b: &mut [u8], at: usize) -> (u8, usize) {
-    use library::*;
-    let mut c = at;
-    let answer = match *v {
-        Value::Unsigned {
-            debug: false,
-            width: 0,
-            n,
-        } => write_u8_display(b, &mut c, n as u8),
-        Value::Unsigned {
-            debug: false,
-            width: 1,
-            n,
-        } => write_u16_display(b, &mut c, n as u16),
-        Value::Unsigned {
-            debug: false,
-            width: 2,
-            n,
-        } => write_u32_display(b, &mut c, n as u32),
-        Value::Unsigned {
-            debug: false, n, ..
-        } => write_u64_display(b, &mut c, n),
-        Value::Unsigned { width: 0, n, .. } => write_u8_debug(b, &mut c, n as u8, flags),
-        Value::Unsigned { width: 1, n, .. } => write_u16_debug(b, &mut c, n as u16, flags),
-        Value::Unsigned { width: 2, n, .. } => write_u32_debug(b, &mut c, n as u32, flags),
-        Value::Unsigned { n, .. } => write_u64_debug(b, &mut c, n, flags),
-        Value::Signed {
-            debug: false,
-            width: 0,
-            x,
-        } => write_i8_display(b, &mut c, x as i8),
-        Value::Signed {
-            debug: false,
-            width: 1,
-            x,
-        } => write_i16_display(b, &mut c, x as i16),
-        Value::Signed {
-            debug: false,
-            width: 2,
-            x,
-        } => write_i32_display(b, &mut c, x as i32),
-        Value::Signed {
-            debug: false, x, ..
-        } => write_i64_display(b, &mut c, x),
-        Value::Signed { width: 0, x, .. } => write_i8_debug(b, &mut c, x as i8, flags),
-        Value::Signed { width: 1, x, .. } => write_i16_debug(b, &mut c, x as i16, flags),
-        Value::Signed { width: 2, x, .. } => write_i32_debug(b, &mut c, x as i32, flags),
-        Value::Signed { x, .. } => write_i64_debug(b, &mut c, x, flags),
-        Value::Char {
-            debug: false,
-            c: code,
-        } => write_char(b, &mut c, code as u32),
-        Value::Char { c: code, .. } => write_char_debug(b, &mut c, code as u32),
-        Value::Str {
-            debug,
-            ref s,
-            start,
-            end,
-        } => {
-            let whole = start == 0 && end == s.len() as u64;
-            let (s, start, end) = (s.as_bytes(), start as usize, end as usize);
-            match (debug, whole) {
-                (false, false) => write_str_range(b, &mut c, s, start, end),
-                (false, true) => write_str(b, &mut c, s),
-                (true, false) => write_str_range_debug(b, &mut c, s, start, end),
-                (true, true) => write_str_debug(b, &mut c, s),
-            }
-        }
-        Value::Ascii {
-            debug,
-            ref s,
-            start,
-            end,
-        } => {
-            let whole = start == 0 && end == s.len() as u64;
-            let (start, end) = (start as usize, end as usize);
-            match (debug, whole) {
-                (false, false) => write_ascii_range(b, &mut c, s, start, end),
-                (false, true) => write_ascii(b, &mut c, s),
-                (true, false) => write_ascii_range_debug(b, &mut c, s, start, end),
-                (true, true) => write_ascii_debug(b, &mut c, s),
-            }
-        }
-        Value::Repeated { byte, times } => write_ascii_repeated(b, &mut c, byte, times as usize),
-    };
-    (answer, c)
-}
-
-/// A single count of our library, where it has one.
-fn single_count(v: &Value, flags: u64) -> Option<(u8, usize)> {
-    use library::*;
-    let mut t = 0;
-    let answer = match *v {
-        Value::Unsigned {
-            debug: false,
-            width: 3,
-            n,
-        } => count_u64_display(&mut t, n),
-        Value::Unsigned {
-            debug: true,
-            width: 3,
-            n,
-        } => count_u64_debug(&mut t, n, flags),
-        Value::Signed {
-            debug: false,
-            width: 3,
-            x,
-        } => count_i64_display(&mut t, x),
-        Value::Signed {
-            debug: true,
-            width: 3,
-            x,
-        } => count_i64_debug(&mut t, x, flags),
-        Value::Char { debug: false, c } => count_char(&mut t, c as u32),
-        Value::Char { debug: true, c } => count_char_debug(&mut t, c as u32),
-        Value::Str {
-            debug,
-            ref s,
-            start: 0,
-            end,
-        } if end == s.len() as u64 => {
-            if debug {
-                count_str_debug(&mut t, s.as_bytes())
-            } else {
-                count_str(&mut t, s.as_bytes())
-            }
-        }
-        _ => return None,
-    };
-    Some((answer, t))
-}
-
 /// Every u8 and i8, and the edges of the wider types, under the twelve flag sets.
 fn integers(t: &mut Tally) {
     for width in 0..4 {
-        let most = greatest(width);
-        let mut numbers: Vec<u64> = if width == 0 {
-            (0..256).collect()
-        } else {
-            Vec::new()
-        };
-        for k in 0..20 {
-            let p = 10u64.pow(k);
-            numbers.extend([p - 1, p, p.saturating_add(1)]);
-        }
-        for k in 0..64 {
-            let p = 1u64 << k;
-            numbers.extend([p - 1, p, p + 1, most ^ p, most - (p - 1).min(most)]);
-        }
-        numbers.push(u64::MAX);
-        numbers.retain(|n| *n <= most);
-        numbers.sort();
-        numbers.dedup();
-        for n in numbers {
-            let shift = 64 - (8 << width);
-            let x = (n << shift) as i64 >> shift;
+        for n in edges(width) {
+            let x = signed(width, n);
             for flags in 0..12 {
                 for debug in [false, true] {
                     compare_value(t, &Value::Unsigned { debug, width, n }, flags);
                     compare_value(t, &Value::Signed { debug, width, x }, flags);
                 }
+            }
+        }
+    }
+}
+
+/// The text at the end of an array, and whether all is zero before it.
+fn laid(start: usize, array: &[u8]) -> (Vec<u8>, bool) {
+    (
+        array[start..].to_vec(),
+        array[..start].iter().all(|b| *b == 0),
+    )
+}
+
+/// An `Integer` laid in arrays by both, compared from `start` on.
+fn compare_arrays(t: &mut Tally, i: const_format::pargument::Integer) {
+    let ours = library::Integer {
+        is_negative: i.is_negative,
+        unsigned: i.unsigned as u64,
+        mask: *i.mask as u64,
+    };
+    for flags in 0..12 {
+        let theirs = rust_arrays(i, flags).map(|text| (text, true));
+        let b = library::integer_binary(ours, flags);
+        let h = library::integer_hexadecimal(ours, flags);
+        let d = library::integer_display(ours);
+        t.same((b.0, h.0), (0, 0), "laid", &(flags, ours));
+        let arrays = [laid(b.1, &b.2), laid(h.1, &h.2), laid(d.0, &d.1)];
+        t.same(arrays, theirs, "laid", &(flags, ours));
+    }
+}
+
+/// Masks for an `Integer` that no type gives.
+static MASKS: [u128; 8] = [
+    0,
+    1,
+    0x7F,
+    0xFFFF_FFFF_0000,
+    0x5555_5555_5555_5555,
+    0xAAAA_AAAA_AAAA_AAAA,
+    1 << 63,
+    u64::MAX as u128,
+];
+
+/// The same numbers as `Integer`, and their digits in arrays; then an `Integer` of any sign and mask,
+/// zero with a minus among them.
+fn integer_arrays(t: &mut Tally) {
+    for width in 0..4 {
+        for n in edges(width) {
+            for is_signed in [false, true] {
+                let theirs = rust_integer(is_signed, width, n);
+                let ours = to_integer(is_signed, width, n);
+                t.same(
+                    (ours.is_negative, ours.unsigned as u128, ours.mask as u128),
+                    (theirs.is_negative, theirs.unsigned, *theirs.mask),
+                    "to_integer",
+                    &(is_signed, width, n),
+                );
+                compare_arrays(t, theirs);
+            }
+        }
+    }
+    for n in edges(3) {
+        for mask in &MASKS {
+            for is_negative in [false, true] {
+                let unsigned = n as u128;
+                compare_arrays(
+                    t,
+                    const_format::pargument::Integer {
+                        is_negative,
+                        unsigned,
+                        mask,
+                    },
+                );
             }
         }
     }
@@ -492,153 +517,6 @@ fn small_runs(t: &mut Tally, run: &mut Vec<Call>, open: &[(u64, bool)], left: us
     }
 }
 
-fn random_text(r: &mut Random, most: u64) -> String {
-    const CHARS: [char; 16] = [
-        'a', 'z', '"', '\'', '\\', '\n', '\t', '\r', '\x01', '\x1f', ' ', '\x7f', 'é', '≢', '𝄞',
-        'B',
-    ];
-    let plain = r.below(3) == 0;
-    let n = r.below(most + 1);
-    (0..n)
-        .map(|i| {
-            if plain && i > 0 && i + 1 < n {
-                'm'
-            } else {
-                CHARS[r.below(16) as usize]
-            }
-        })
-        .collect()
-}
-
-fn random_value(r: &mut Random, longest: u64) -> Value {
-    let debug = r.below(2) == 0;
-    let width = r.below(4);
-    match r.below(8) {
-        0 | 1 => {
-            let n = match r.below(4) {
-                0 => r.below(12),
-                1 => u64::MAX,
-                2 => 10u64.pow(r.below(20) as u32),
-                _ => r.next() >> r.below(64),
-            };
-            Value::Unsigned {
-                debug,
-                width,
-                n: n & greatest(width),
-            }
-        }
-        2 | 3 => {
-            let most = (greatest(width) >> 1) as i64;
-            let x = match r.below(4) {
-                0 => i64::MIN,
-                1 => i64::MAX,
-                2 => r.below(21) as i64 - 10,
-                _ => r.next() as i64 >> r.below(64),
-            };
-            Value::Signed {
-                debug,
-                width,
-                x: x.clamp(-most - 1, most),
-            }
-        }
-        4 => Value::Char {
-            debug,
-            c: random_text(r, 3).chars().next().unwrap_or('q'),
-        },
-        5 | 6 => {
-            let most = if r.below(20) == 0 { longest } else { 8 };
-            let s = random_text(r, most);
-            let n = s.len() as u64;
-            let (start, end) = if r.below(3) == 0 {
-                (0, n)
-            } else {
-                (r.below(n / 2 + 4), r.below(n + 6))
-            };
-            if r.below(4) == 0 {
-                let s: Vec<u8> = s.bytes().filter(u8::is_ascii).collect();
-                Value::Ascii {
-                    debug,
-                    s,
-                    start,
-                    end,
-                }
-            } else {
-                Value::Str {
-                    debug,
-                    s,
-                    start,
-                    end,
-                }
-            }
-        }
-        _ => Value::Repeated {
-            byte: r.next() as u8,
-            times: r.below(6),
-        },
-    }
-}
-
-/// Values and entries in one another. `chain` makes few at each level and goes deep.
-fn random_calls(r: &mut Random, run: &mut Vec<Call>, depth: u64, chain: bool, longest: u64) {
-    if depth == 0 || (!chain && r.below(3) == 0) {
-        run.push(Call::Value(random_value(r, longest)));
-        return;
-    }
-    if r.below(6) == 0 {
-        run.push(Call::Sub(r.below(12)));
-        for _ in 0..if chain { 1 } else { r.below(3) } {
-            random_calls(r, run, depth - 1, chain, longest);
-        }
-        run.push(Call::EndSub);
-        return;
-    }
-    let kind = r.below(4);
-    let name = if kind < 2 {
-        random_text(r, 8)
-    } else {
-        String::new()
-    };
-    run.push(Call::Open(kind, name));
-    let fields = if chain { 1 } else { r.below(4) };
-    for _ in 0..fields {
-        run.push(match kind {
-            0 => Call::Field(random_text(r, 8)),
-            1 => Call::Item,
-            _ => Call::Entry,
-        });
-        for _ in 0..if chain { 1 } else { r.below(3) } {
-            random_calls(r, run, depth - 1, chain, longest);
-        }
-    }
-    run.push(Call::Finish);
-}
-
-fn random_run(r: &mut Random, longest: u64) -> Vec<Call> {
-    let mut run = Vec::new();
-    if r.below(10) == 0 {
-        let depth = 1 + r.below(64);
-        random_calls(r, &mut run, depth, true, longest);
-    } else {
-        for _ in 0..1 + r.below(2) {
-            random_calls(r, &mut run, 3, false, longest);
-        }
-    }
-    run
-}
-
-/// A cursor and a buffer size at or around what a text of n bytes needs.
-fn random_place(r: &mut Random, n: usize) -> (usize, usize) {
-    let at = r.below(5) as usize;
-    let full = at + n;
-    let size = match r.below(4) {
-        0 => full,
-        1 => full.max(at + 1) - 1,
-        2 => full + 1,
-        _ => at + r.below(n as u64 + 2) as usize,
-    };
-    (size, at)
-}
-
 fn random_runs(t: &mut Tally, r: &mut Random, count: u64) {
     for _ in 0..count {
         let run = random_run(r, 300);
@@ -654,60 +532,25 @@ fn random_runs(t: &mut Tally, r: &mut Random, count: u64) {
     }
 }
 
-/// Words that are no run of a Rust caller, for our library alone: it answers and ends, with an
-/// answer of document 01, the cursor moved forward inside the buffer over well-formed UTF-8, and no
-/// byte before it changed.
-fn damaged(r: &mut Random, count: u64) -> u64 {
-    let mut bad = 0;
+/// Runs with longer names, so that a name is refused where smaller pieces still fit: the margin that
+/// its builder leaves high can be measured then.
+fn long_names(t: &mut Tally, r: &mut Random, count: u64) {
     for _ in 0..count {
-        let run = random_run(r, 40);
-        let mut words = Encoded::new(&run);
-        for _ in 0..1 + r.below(4) {
-            let value = match r.below(6) {
-                0 => r.next(),
-                1 => u64::MAX,
-                2 => 1 << r.below(64),
-                _ => r.below(24),
-            };
-            let i = r.below(words.calls.len() as u64) as usize;
-            words.calls[i] = value;
-            if !words.text.is_empty() {
-                let i = r.below(words.text.len() as u64) as usize;
-                words.text[i] = r.next() as u8;
+        let mut run = random_run(r, 20);
+        for call in &mut run {
+            if let Call::Open(0 | 1, name) | Call::Field(name) = call {
+                if r.below(3) == 0 {
+                    *name = "m".repeat(20 + r.below(80) as usize);
+                }
             }
         }
-        if r.below(4) == 0 {
-            let n = words.calls.len() - r.below(5) as usize;
-            words.calls.truncate(n);
-        }
-        let flags = if r.below(4) == 0 {
-            r.next()
-        } else {
-            r.below(12)
-        };
-        let (first, _) = library::count(flags, &words.calls, &words.text);
-        let size = r.below(200) as usize;
-        let at = r.below(size as u64 + 3) as usize;
-        let before = contents(size);
-        let mut b = before.clone();
-        let (written, cursor) = library::write(flags, &words.calls, &words.text, &mut b, at);
-        let fine = if at <= size {
-            at <= cursor
-                && cursor <= size
-                && b[..at] == before[..at]
-                && std::str::from_utf8(&b[at..cursor]).is_ok()
-        } else {
-            cursor == at && b == before && (written == 9 || words.calls.len() < 5 || written == 8)
-        };
-        if first > 9 || written > 9 || !fine {
-            bad += 1;
-            println!(
-                "damaged: {first} {written} {at} {cursor} {:?} {:?}",
-                words.calls, words.text
-            );
-        }
+        let flags = r.below(12);
+        let words = Encoded::new(&run);
+        let total = compare_count(t, &run, &words, flags);
+        let size = r.below(total as u64 + 1) as usize;
+        compare_write(t, &run, &words, flags, size, 0);
+        compare_prefixes(t, &run, &words, flags, size, 0);
     }
-    bad
 }
 
 fn hex(bytes: &[u8]) -> String {
@@ -724,25 +567,65 @@ fn sample(r: &mut Random, count: u64) {
         run.truncate(1 + r.below(run.len() as u64) as usize);
         let flags = r.below(12);
         let words = Encoded::new(&run);
-        let (counted, total) = rust_count(&run, flags);
+        let counted = rust_count(&run, flags);
+        let total = counted.number;
         let (size, at) = random_place(r, total);
         if words.calls.len() > 200 || words.text.len() > 400 || size > 400 {
             continue;
         }
         let mut b = contents(size);
-        let (written, cursor) = rust_write(&run, flags, &mut b, at);
+        let written = rust_write(&run, flags, &mut b, at);
         let numbers: Vec<String> = words.calls.iter().map(u64::to_string).collect();
         println!(
-            "{flags},{at},{size},{},{},{},{},{total},{},{cursor},{}",
+            "{flags},{at},{size},{},{},{},{},{total},{},{},{}",
             numbers.len(),
             numbers.join(","),
             hex(&words.text),
-            first_refusal(&counted),
-            first_refusal(&written),
+            counted.first(),
+            written.first(),
+            written.number,
             hex(&b)
         );
         printed += 1;
     }
+}
+
+/// Everything that both can play, section by section.
+fn compare_all(t: &mut Tally, r: &mut Random, count: u64) {
+    let mut seen = 0;
+    let mut said = |t: &Tally, what: &str| {
+        println!("{what}: {} compared", t.compared - seen);
+        seen = t.compared;
+    };
+    integers(t);
+    said(t, "integers");
+    integer_arrays(t);
+    said(t, "integers in arrays");
+    characters(t);
+    said(t, "characters");
+    strings(t);
+    said(t, "strings");
+    truncations(t);
+    said(t, "truncations");
+    small_runs(t, &mut Vec::new(), &[], 7);
+    said(t, "all runs of up to 7 calls");
+    random_runs(t, r, count);
+    said(t, "runs by chance");
+    long_names(t, r, count / 10);
+    said(t, "runs by chance with long names");
+}
+
+/// Prints what was seen beside the comparisons.
+fn print_tally(t: &Tally) {
+    let n = t.refused;
+    println!(
+        "writes: {} done, {} refused with 1, {} with 3; {} answers after a first refusal; {} left entries open",
+        n[0], n[1], n[3], t.later, t.open
+    );
+    println!(
+        "margins: {} compared, {} measured in full, {} of these left high by a refused builder",
+        t.margins, t.in_full, t.left_high
+    );
 }
 
 fn main() {
@@ -762,32 +645,15 @@ fn main() {
     let (seed, count) = (a, b);
     let mut r = Random(seed * 2 + 1);
     let mut t = Tally::default();
-    let mut seen = 0;
-    let mut said = |t: &Tally, what: &str| {
-        println!("{what}: {} compared", t.compared - seen);
-        seen = t.compared;
-    };
-    integers(&mut t);
-    said(&t, "integers");
-    characters(&mut t);
-    said(&t, "characters");
-    strings(&mut t);
-    said(&t, "strings");
-    truncations(&mut t);
-    said(&t, "truncations");
-    small_runs(&mut t, &mut Vec::new(), &[], 7);
-    said(&t, "all runs of up to 7 calls");
-    random_runs(&mut t, &mut r, count);
-    said(&t, "runs by chance");
-    let bad = damaged(&mut r, count);
+    compare_all(&mut t, &mut r, count);
+    let (tried, wrong) = alone::wrong_flags();
+    println!("{tried} single calls with flags from 12 on, ours alone: {wrong} wrong");
+    let bad = alone::damaged(&mut r, count);
     println!("{count} damaged runs, ours alone: {bad} wrong");
-    let n = t.refused;
-    println!(
-        "writes: {} done, {} refused with 1, {} with 3",
-        n[0], n[1], n[3]
-    );
-    println!("{} compared, {} differ", t.compared, t.differ + bad);
-    if t.differ + bad > 0 {
+    print_tally(&t);
+    let differ = t.differ + wrong + bad;
+    println!("{} compared, {differ} differ", t.compared);
+    if differ > 0 {
         std::process::exit(1);
     }
 }
