@@ -5,8 +5,12 @@
  * words at the end that are no whole call are left out.
  *
  * The answer is the run's first refusal, 0 for none. The calls after a refused one are played all
- * the same. Every pointer is to as many elements as its length says, and none may overlap what buf,
- * total or cursor points to. */
+ * the same. Flags of 12 and above are none: the run is answered with 8, or with 9 if the cursor is
+ * past the buffer, and is not played: the total is 0 or the cursor as it was, nothing is open, no
+ * answer is stored and no byte changed.
+ *
+ * Every pointer is to as many elements as its length says, and none may overlap what buf, total,
+ * cursor, open or answers points to. */
 #ifndef TABLE_TEXT_H
 #define TABLE_TEXT_H
 
@@ -17,19 +21,38 @@
 extern "C" {
 #endif
 
-/* Counts a run: the total is left in *total. */
+/* Counts a run: the total is left in *total.
+ *
+ * Where the answer is 0 and *open (of table_text_count_each) is 0, that is, every builder is finished
+ * and every sub-formatter closed, writing the same run from place p answers 0 exactly if p + total is
+ * at most buf_len and no string is cut inside a character, and then leaves exactly the text that was
+ * counted. A run that leaves something open can be answered with 0 in counting and in writing and yet
+ * have pieces missing, since a builder keeps a refusal until it is finished. */
 uint8_t table_text_count(uint64_t flags, const uint64_t *calls, size_t calls_len,
                          const uint8_t *text, size_t text_len, size_t *total);
 
-/* Writes a run into buf from place *cursor on: the place after it is left in *cursor. A run that
- * table_text_count answers with 0 and a total, that finishes every builder, closes every
- * sub-formatter and cuts strings only between characters, is written whole exactly if that many
- * bytes are free. */
+/* Writes a run into buf from place *cursor on: the place after it is left in *cursor.
+ *
+ * Where the answer is not 0, the bytes before the place that *cursor was are as they were, and those
+ * from there on are not to be sent: pieces of later calls may stand there, and a quoted text that is
+ * refused with 1 may leave its first bytes behind the cursor. */
 uint8_t table_text_write(uint64_t flags, uint8_t *buf, size_t buf_len, size_t *cursor,
                          const uint64_t *calls, size_t calls_len,
                          const uint8_t *text, size_t text_len);
 
-/* Flags: one of the first three, plus any of the other two. The lower digits are of hexadecimal. */
+/* The same, and more is left: in *open how many builders and sub-formatters are open at the end, and
+ * in answers[i] the answer to call i, counted from 0, as far as answers has room. What answers has
+ * behind the calls is left as it was. */
+uint8_t table_text_count_each(uint64_t flags, const uint64_t *calls, size_t calls_len,
+                              const uint8_t *text, size_t text_len, size_t *total,
+                              size_t *open, uint8_t *answers, size_t answers_len);
+uint8_t table_text_write_each(uint64_t flags, uint8_t *buf, size_t buf_len, size_t *cursor,
+                              const uint64_t *calls, size_t calls_len,
+                              const uint8_t *text, size_t text_len,
+                              size_t *open, uint8_t *answers, size_t answers_len);
+
+/* Flags, a number below 12: one of the first three, plus any of the other two. The lower digits are
+ * of hexadecimal. */
 enum {
     TABLE_TEXT_DECIMAL = 0,
     TABLE_TEXT_HEXADECIMAL = 4,
@@ -48,7 +71,7 @@ enum {
     TABLE_TEXT_TUPLE_FIELD = 5,
     TABLE_TEXT_ENTRY = 6,           /* of a list or a set */
     TABLE_TEXT_FINISH = 7,          /* of the innermost builder */
-    TABLE_TEXT_SUB_FORMATTER = 8,   /* [a: its flags] */
+    TABLE_TEXT_SUB_FORMATTER = 8,   /* [a: its flags, below 12] */
     TABLE_TEXT_END_FORMATTER = 9,
     TABLE_TEXT_STR = 10,            /* [UTF-8, a and b: the range] */
     TABLE_TEXT_STR_DEBUG = 11,      /* the same, quoted */

@@ -5,7 +5,7 @@
 use std::error::Error;
 use std::net::{Ipv4Addr, UdpSocket};
 use std::time::Duration;
-use table_text::{FormattingFlags, Run};
+use table_text::{Formatter, FormattingFlags, Run};
 
 /// The bytes of a packet.
 const PACKET: usize = 96;
@@ -18,8 +18,8 @@ struct Order {
     blade: u8,
 }
 
-fn record_move(run: &mut Run, o: &Order) {
-    let mut s = run.debug_struct("Move");
+fn record_move(f: &mut Formatter, o: &Order) {
+    let mut s = f.debug_struct("Move");
     s.field("panel").write_str_debug(o.panel);
     let mut to = s.field("to").debug_tuple("");
     to.field().write_i32_debug(o.x);
@@ -29,8 +29,8 @@ fn record_move(run: &mut Run, o: &Order) {
     s.finish();
 }
 
-fn record_blade_down(run: &mut Run, o: &Order) {
-    let mut s = run.debug_struct("BladeDown");
+fn record_blade_down(f: &mut Formatter, o: &Order) {
+    let mut s = f.debug_struct("BladeDown");
     let hexadecimal = FormattingFlags::NEW.set_hexadecimal().set_alternate(true);
     s.field("blade")
         .make_formatter(hexadecimal)
@@ -110,7 +110,7 @@ fn main() -> Result<(), Box<dyn Error>> {
     }
     sender.flush()?;
 
-    // A packet that is one byte short is refused, and says so.
+    // A packet that is one byte short is refused, and says which call did not fit.
     let size = run.count()?;
     let mut short = vec![0; size - 1];
     println!("one byte short: {}", run.write(&mut short, 0).unwrap_err());
