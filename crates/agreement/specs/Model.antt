@@ -157,7 +157,7 @@ endsubAt F [] = record { answer = numberOf WrongCall; state = F }
 endsubAt F (builder k has h ∷ s) = record { answer = numberOf WrongCall; state = F }
 endsubAt F (outer f m ∷ s) = record { answer = numberOf Done; state = record { output = F .output; flags = f; margin = m; stack = s } }
 
--- 'A nested record', finish: the builder closes. If it holds a refusal, answer that, margin not lowered. Otherwise lower it by 4, a made-up one below 4 to 0, and write the closing
+-- 'A nested record', finish: the builder closes. If it holds a refusal, answer that, margin not lowered. Otherwise lower it by 4 and write the closing; docs/DECISIONS.md, 'The formatter': a made-up margin below 4 is lowered to 0
 abbrev pub finishAt : State → List Entry → Out
 finishAt F [] = record { answer = numberOf WrongCall; state = F }
 finishAt F (builder k has zero ∷ s) =

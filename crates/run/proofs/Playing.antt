@@ -113,6 +113,10 @@ noted-words zero zero i p = refl
 noted-words zero (suc x) i p = refl
 noted-words (suc a) x i p = refl
 
+pub place-words : (a i p : ℕ) → placeOr a i p / 5 ≡ placeOr a (i / 5) (p / 5)
+place-words zero i p = refl
+place-words (suc a) i p = refl
+
 rest-next : (a p k x : ℕ) (l : List ℕ) (r : Run) → rest (hold a x) (noted a x k p) (suc k) (set l k x) r ≡ rest a p k l (record { answers = x ∷ r .answers; state = r .state })
 rest-next a p k x l r = rw (hold-hold a x (firstRefusal (r .answers)), place-next a x k p (r .answers), stored-next k l x (r .answers))
 

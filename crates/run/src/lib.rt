@@ -2,8 +2,7 @@
 // of open entries is a local array that is lent to the calls.
 ghost use mathlib.Core.Path.{_≡_};
 ghost use mathlib.Core.List.{[]};
-ghost use Prim.Native.Nat.{_/_};
-ghost use lib.ListN.{length, set};
+ghost use lib.ListN.{set};
 ghost use Rattle.agreement.specs.Model.{hold, start, counting, writing};
 ghost use Rattle.writer_backend.specs.Output.{outputOf, modeOf};
 ghost use Rattle.encoded_call.specs.Encoding.{decode};
@@ -68,8 +67,7 @@ fn store(answers: &mut [u8], at: usize, answer: u8)
 }
 
 // Plays the calls from the beginning: 9 where the cursor is past the buffer, also of no calls. The
-// first refusal and the word that its call begins at are lent: so they stay out of the registers
-// while nothing is refused.
+// first refusal and its place are lent: so they stay out of the registers while nothing is refused.
 fn play(
     mode: WriterBackend,
     flags: FormattingFlags,
@@ -80,7 +78,7 @@ fn play(
     first: &mut u8,
     place: &mut usize,
 ) -> End
-    ensures { λ r. ⌜ record { first = now (first .exit); place = placeOr (now (first .exit)) (length (now (calls .entry)) / 5) (now (place .exit) / 5); entries = r .entries; output = outputOf (r .mode) (now (buf .exit)) } ≡ played (modeOf mode) (now (buf .entry)) flags (decode (now (calls .entry)) (now (text .entry))) ⌝ }
+    ensures { λ r. ⌜ record { first = now (first .exit); place = now (place .exit); entries = r .entries; output = outputOf (r .mode) (now (buf .exit)) } ≡ played (modeOf mode) (now (buf .entry)) flags (decode (now (calls .entry)) (now (text .entry))) ⌝ }
     ensures { λ _. ⌜ now (answers .exit) ≡ stored (now (answers .entry)) (runOr (start (modeOf mode) (now (buf .entry)) flags) (decode (now (calls .entry)) (now (text .entry))) .answers) ⌝ }
 {
     let mut stack = [0u32; 64];
@@ -104,6 +102,7 @@ fn play(
         store(answers, i / 5, r.answer);
         i += 5;
     }
+    *place = place_of(*first, i, *place) / 5;
     let end = head.mode;
     End {
         entries: head.open_entries(),
@@ -144,7 +143,7 @@ fn count_each_from(
     Ran {
         first,
         number: counted.number,
-        place: place_of(first, calls.len() / 5, place / 5),
+        place,
         entries: end.entries,
     }
 }
@@ -211,7 +210,7 @@ pub fn write_run_each(
     Ran {
         first,
         number: after.number,
-        place: place_of(first, calls.len() / 5, place / 5),
+        place,
         entries: end.entries,
     }
 }

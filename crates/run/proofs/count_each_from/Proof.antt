@@ -6,11 +6,12 @@ use Rattle.run.proofs.count_each_from.Tie as tie
 
 returns : tie.Need-returns
 returns c =
-    let at-play = c .before .before .before .before .before in
-    let a = at-play .before .before .before .before .before .before .before .before .args in
+    let at-play = c .before .before .before .before in
+    let at-args = at-play .before .before .before .before .before .before .before .before in
+    let a = at-args .args in
     let p = at-play .play in
     let r = p .result in
-    (counted (a .total) (a .flags) (decode (a .calls .now) (a .text .now)) _ _ (r .entries) (r .mode) (p .last .1 .1 .0) (rw (c .place-of .ensures) (p .ensures .0)), p .ensures .1)
+    (counted (a .total) (a .flags) (decode (a .calls .now) (a .text .now)) _ _ (r .entries) (r .mode) (p .last .1 .1 .0) (p .ensures .0), p .ensures .1)
 
 pub count-each-from-spec : {M : Type 1} → statement M
-count-each-from-spec = tie.close (tie.spec (λ c. search needs) (λ c κs. search needs) (λ c κs. search needs) (λ c. search needs) returns)
+count-each-from-spec = tie.close (tie.spec (λ c. search needs) (λ c κs. search needs) (λ c. search needs) returns)

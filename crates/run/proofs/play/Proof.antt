@@ -7,7 +7,7 @@ use Rattle.writer_backend.specs.Output.{modeOf}
 use Rattle.formatter.specs.View.{view}
 use Rattle.encoded_call.specs.Encoding.{callAt, decode}
 use Rattle.run.specs.Played.{runOr}
-use Rattle.run.proofs.Playing.{decode-next, decode-end, rest, noted-words, play-next, play-end}
+use Rattle.run.proofs.Playing.{decode-next, decode-end, rest, noted-words, place-words, play-next, play-end}
 use Rattle.run.proofs.play.Statement.{statement}
 use Rattle.run.proofs.play.Tie as tie
 
@@ -53,19 +53,23 @@ loop-again c =
     (omega arith, omega arith, r .kept .1 .1 .0 ∙ h .inv .2, t .kept .0 ∙ h .inv .3, rw u (n ∙ e))
 
 same-length : tie.Need-same-length Inv-loop μ-loop
-same-length c = c .before .before .before .loop .inv .2
+same-length c =
+    let at-loop = c .before .before .before .before .before .before in
+    at-loop .loop .inv .2
 
 same-length-2 : tie.Need-same-length-2 Inv-loop μ-loop
-same-length-2 c = c .before .before .before .loop .inv .3
+same-length-2 c =
+    let at-loop = c .before .before .before .before .before .before in
+    at-loop .loop .inv .3
 
 returns : tie.Need-returns Inv-loop μ-loop
 returns c =
-    let at-loop = c .before .before .before in
+    let at-loop = c .before .before .before .before .before .before in
     let h = at-loop .loop in
     let a = at-loop .before .before .before .before .before .before .before .before .args in
     let e = rw (decode-end (drop (h .i) (a .calls .now)) (a .text .now) (simp length-drop (omega arith))) at (h .inv .4) in
-    let n : length (a .calls .now) / 5 ≡ h .i / 5 = omega arith in
-    play-end (modeOf (a .mode)) (a .buf .now) (a .flags) (decode (a .calls .now) (a .text .now)) (a .answers .now) _ _ (at-loop .before .before .before .new .ensures _ (a .buf .now)) (at-loop .before .past .ensures) (h .first) (h .place / 5) (h .i / 5) (h .answers) (view (h .head) (h .stack) (h .buf)) _ _ (rw n refl) (c .open-entries .ensures (h .stack) (h .buf)) e
+    let q = ap (λ (x : ℕ). x / 5) (c .before .before .place-of .ensures) ∙ place-words (h .first) (h .i) (h .place) in
+    play-end (modeOf (a .mode)) (a .buf .now) (a .flags) (decode (a .calls .now) (a .text .now)) (a .answers .now) _ _ (at-loop .before .before .before .new .ensures _ (a .buf .now)) (at-loop .before .past .ensures) (h .first) (h .place / 5) (h .i / 5) (h .answers) (view (h .head) (h .stack) (h .buf)) _ _ q (c .open-entries .ensures (h .stack) (h .buf)) e
 
 pub play-spec : {M : Type 1} → statement M
-play-spec = tie.close (tie.spec Inv-loop μ-loop (λ c κs. search needs) (λ c κs. search needs) (λ c. omega arith) loop-holds (λ c. search needs) (λ c. search needs) (λ c. search needs) (λ c. search needs) (λ c. search needs) (λ c. search needs) (λ c. search needs) (λ c. search needs) (λ c. search needs) (λ c. search needs) (λ c. search needs) (λ c. search needs) (λ c. search needs) (λ c. search needs) (λ c κs. search needs) (λ c κs. search needs) (λ c κs. search needs) add-i loop-less loop-again (λ c κs. search needs) same-length same-length-2 returns)
+play-spec = tie.close (tie.spec Inv-loop μ-loop (λ c κs. search needs) (λ c κs. search needs) (λ c. omega arith) loop-holds (λ c. search needs) (λ c. search needs) (λ c. search needs) (λ c. search needs) (λ c. search needs) (λ c. search needs) (λ c. search needs) (λ c. search needs) (λ c. search needs) (λ c. search needs) (λ c. search needs) (λ c. search needs) (λ c. search needs) (λ c. search needs) (λ c κs. search needs) (λ c κs. search needs) (λ c κs. search needs) add-i loop-less loop-again (λ c κs. search needs) (λ c κs. search needs) same-length same-length-2 returns)

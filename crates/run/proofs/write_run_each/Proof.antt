@@ -6,14 +6,15 @@ use Rattle.run.proofs.write_run_each.Tie as tie
 
 returns : tie.Need-returns
 returns c =
-    let at-play = c .before .before .before .before .before .before in
-    let a = at-play .before .before .before .before .before .before .before .before .before .args in
+    let at-play = c .before .before .before .before .before in
+    let at-args = at-play .before .before .before .before .before .before .before .before .before in
+    let a = at-args .args in
     let ds = decode (a .calls .now) (a .text .now) in
     let p = at-play .play in
     let r = p .result in
     let b = p .last .1 .1 .0 in
-    let e = written (a .flags) ds (a .buf .now) (a .at) _ (c .place-of .result) (r .entries) (r .mode) b (rw (← c .place-of .ensures) at (p .ensures .0)) in
+    let e = written (a .flags) ds (a .buf .now) (a .at) _ _ (r .entries) (r .mode) b (p .ensures .0) in
     (e, (p .ensures .1, (write-agrees (a .flags) ds (a .buf .now) (a .at) _ b e, writes-as-counted (a .flags) ds (a .buf .now) (a .at) _ b e)))
 
 pub write-run-each-spec : {M : Type 1} → statement M
-write-run-each-spec = tie.close (tie.spec (λ c κs. search needs) (λ c κs. search needs) (λ c. search needs) (λ c. search needs) returns)
+write-run-each-spec = tie.close (tie.spec (λ c κs. search needs) (λ c. search needs) (λ c. search needs) returns)
