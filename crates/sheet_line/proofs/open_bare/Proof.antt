@@ -9,11 +9,17 @@ returns c = rw (← c .before .same .ensures, c .if1 .taken)
 
 returns-2 : tie.Need-returns-2
 unfolding openBare
-returns-2 c = rw (← c .before .before .before .before .same .ensures, c .before .before .before .if1 .left, ← c .before .same2 .ensures, c .if2 .taken)
+returns-2 c =
+    let at-if1 = c .before .before .before in
+    let at-same = at-if1 .before in
+    rw (← at-same .same .ensures, at-if1 .if1 .left, ← c .before .same2 .ensures, c .if2 .taken)
 
 returns-3 : tie.Need-returns-3
 unfolding openBare
-returns-3 c = rw (← c .before .before .before .before .same .ensures, c .before .before .before .if1 .left, ← c .before .same2 .ensures, c .if2 .left)
+returns-3 c =
+    let at-if1 = c .before .before .before in
+    let at-same = at-if1 .before in
+    rw (← at-same .same .ensures, at-if1 .if1 .left, ← c .before .same2 .ensures, c .if2 .left)
 
 pub open-bare-spec : {M : Type 1} → statement M
 open-bare-spec = tie.close (tie.spec (λ c. search needs) (λ c κs. search needs) returns (λ c. search needs) (λ c κs. search needs) returns-2 returns-3)

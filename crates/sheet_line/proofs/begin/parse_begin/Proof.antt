@@ -13,15 +13,30 @@ returns c = rw (lt-ltb _ _ (c .if1 .taken))
 
 returns-2 : tie.Need-returns-2
 unfolding beginOf
-returns-2 c = rw (le-ltb _ _ (c .before .before .if1 .left), fields-last (c .before .before .before .before .args .l .now) _ (c .before .index-of .ensures .0) (c .if2 .taken)) (no-sizes _)
+returns-2 c =
+    let at-if1 = c .before .before in
+    let at-args = at-if1 .before .before in
+    rw (le-ltb _ _ (at-if1 .if1 .left), fields-last (at-args .args .l .now) _ (c .before .index-of .ensures .0) (c .if2 .taken)) (no-sizes _)
 
 returns-3 : tie.Need-returns-3
 unfolding beginOf
-returns-3 c = rw (le-ltb _ _ (c .before .before .before .before .before .before .if1 .left), fields-cut (c .before .before .before .before .before .before .before .before .args .l .now) _ (c .before .before .before .before .before .index-of .ensures .0) (c .before .before .before .before .if2 .left), ← c .before .same .ensures, not-true (c .before .same .result) (c .if3 .taken))
+returns-3 c =
+    let at-if2 = c .before .before .before .before in
+    let at-index-of = at-if2 .before in
+    let at-if1 = at-index-of .before in
+    let at-args = at-if1 .before .before in
+    rw (le-ltb _ _ (at-if1 .if1 .left), fields-cut (at-args .args .l .now) _ (at-index-of .index-of .ensures .0) (at-if2 .if2 .left), ← c .before .same .ensures, not-true (c .before .same .result) (c .if3 .taken))
 
 returns-4 : tie.Need-returns-4
 unfolding beginOf
-returns-4 c = rw (le-ltb _ _ (c .before .before .before .before .before .before .before .before .if1 .left), fields-cut (c .before .before .before .before .before .before .before .before .before .before .args .l .now) _ (c .before .before .before .before .before .before .before .index-of .ensures .0) (c .before .before .before .before .before .before .if2 .left), ← c .before .before .before .same .ensures, not-false (c .before .before .before .same .result) (c .before .before .if3 .left)) (c .size-fields .ensures)
+returns-4 c =
+    let at-if3 = c .before .before in
+    let at-same = at-if3 .before in
+    let at-if2 = at-same .before .before .before in
+    let at-index-of = at-if2 .before in
+    let at-if1 = at-index-of .before in
+    let at-args = at-if1 .before .before in
+    rw (le-ltb _ _ (at-if1 .if1 .left), fields-cut (at-args .args .l .now) _ (at-index-of .index-of .ensures .0) (at-if2 .if2 .left), ← at-same .same .ensures, not-false (at-same .same .result) (at-if3 .if3 .left)) (c .size-fields .ensures)
 
 pub parse-begin-spec : {M : Type 1} → statement M
 parse-begin-spec = tie.close (tie.spec returns (λ c κs. search needs) returns-2 (λ c. search needs) (λ c. search needs) (λ c. search needs) (λ c. search needs) (λ c κs. search needs) returns-3 (λ c. search needs) (λ c. search needs) (λ c. search needs) (λ c. search needs) (λ c κs. search needs) returns-4)

@@ -12,16 +12,31 @@ use Rattle.sheet_line.proofs.numbers.signed_op.Statement.{statement}
 use Rattle.sheet_line.proofs.numbers.signed_op.Tie as tie
 
 returns : tie.Need-returns
-returns c = rw (← signed-empty (bitsOf (c .before .before .args .width)) (c .before .before .args .s .now) (c .if1 .taken))
+returns c =
+    let at-args = c .before .before in
+    rw (← signed-empty (bitsOf (at-args .args .width)) (at-args .args .s .now) (c .if1 .taken))
 
 negative-op-requires : tie.Need-negative-op-requires
 negative-op-requires c κs = omega (arith, in-limit _ _ _ _ (c .before .before .before .number .ensures) (c .before .m .given .1))
 
 returns-2 : tie.Need-returns-2
-returns-2 c = rw (signed-minus (bitsOf (c .before .before .before .before .before .before .before .before .before .before .before .args .width)) (c .before .before .before .before .before .before .before .before .before .before .before .args .s .now) (c .before .before .before .before .before .before .before .before .before .if1 .left) (c .before .before .before .before .before .before .if2 .taken), ← is-read _ (2 ^ (bitsOf (c .before .before .before .before .before .before .before .before .before .before .before .args .width) - 1)) (take (length (c .before .before .before .before .before .before .before .before .before .before .before .args .s .now) - 1) (drop 1 (c .before .before .before .before .before .before .before .before .before .before .before .args .s .now))) _ (c .before .before .before .before .number .ensures) (least-half (c .before .before .before .before .before .before .before .before .before .before .before .args .width) _ (c .before .before .before .before .before .before .before .before .greatest .ensures)) _ (c .before .before .m .given .1)) (c .negative-op .ensures)
+returns-2 c =
+    let at-m = c .before .before in
+    let at-number = at-m .before .before in
+    let at-if2 = at-number .before .before in
+    let at-greatest = at-if2 .before .before in
+    let at-if1 = at-greatest .before in
+    let at-args = at-if1 .before .before in
+    rw (signed-minus (bitsOf (at-args .args .width)) (at-args .args .s .now) (at-if1 .if1 .left) (at-if2 .if2 .taken), ← is-read _ (2 ^ (bitsOf (at-args .args .width) - 1)) (take (length (at-args .args .s .now) - 1) (drop 1 (at-args .args .s .now))) _ (at-number .number .ensures) (least-half (at-args .args .width) _ (at-greatest .greatest .ensures)) _ (at-m .m .given .1)) (c .negative-op .ensures)
 
 returns-3 : tie.Need-returns-3
-returns-3 c = rw (signed-minus (bitsOf (c .before .before .before .before .before .before .before .before .before .args .width)) (c .before .before .before .before .before .before .before .before .before .args .s .now) (c .before .before .before .before .before .before .before .if1 .left) (c .before .before .before .before .if2 .taken), ← other-read _ (2 ^ (bitsOf (c .before .before .before .before .before .before .before .before .before .args .width) - 1)) (take (length (c .before .before .before .before .before .before .before .before .before .args .s .now) - 1) (drop 1 (c .before .before .before .before .before .before .before .before .before .args .s .now))) _ (c .before .before .number .ensures) (least-half (c .before .before .before .before .before .before .before .before .before .args .width) _ (c .before .before .before .before .before .before .greatest .ensures)) (c .enum-told .given .1))
+returns-3 c =
+    let at-number = c .before .before in
+    let at-if2 = at-number .before .before in
+    let at-greatest = at-if2 .before .before in
+    let at-if1 = at-greatest .before in
+    let at-args = at-if1 .before .before in
+    rw (signed-minus (bitsOf (at-args .args .width)) (at-args .args .s .now) (at-if1 .if1 .left) (at-if2 .if2 .taken), ← other-read _ (2 ^ (bitsOf (at-args .args .width) - 1)) (take (length (at-args .args .s .now) - 1) (drop 1 (at-args .args .s .now))) _ (at-number .number .ensures) (least-half (at-args .args .width) _ (at-greatest .greatest .ensures)) (c .enum-told .given .1))
 
 cast-t21 : tie.Need-cast-t21
 cast-t21 c =
@@ -32,7 +47,13 @@ returns-4 : tie.Need-returns-4
 returns-4 c = rw (signed-plain (bitsOf (c .before .before .before .before .before .before .before .before .before .args .width)) (c .before .before .before .before .before .before .before .before .before .args .s .now) (c .before .before .before .before .before .before .before .if1 .left) (c .before .before .before .before .if2 .left), ← is-read _ (2 ^ (bitsOf (c .before .before .before .before .before .before .before .before .before .args .width) - 1) - 1) (c .before .before .before .before .before .before .before .before .before .args .s .now) _ (c .before .before .before .number2 .ensures) (greatest-half (c .before .before .before .before .before .before .before .before .before .args .width) _ (c .before .before .before .before .before .before .greatest .ensures)) _ (c .before .n .given .1), toZ-pos w64 {n = c .before .n .given .0 .0} (omega (arith, in-limit _ (c .before .before .before .before .before .before .before .before .before .args .s .now) _ _ (c .before .before .before .number2 .ensures) (c .before .n .given .1))))
 
 returns-5 : tie.Need-returns-5
-returns-5 c = rw (signed-plain (bitsOf (c .before .before .before .before .before .before .before .before .args .width)) (c .before .before .before .before .before .before .before .before .args .s .now) (c .before .before .before .before .before .before .if1 .left) (c .before .before .before .if2 .left), ← other-read _ (2 ^ (bitsOf (c .before .before .before .before .before .before .before .before .args .width) - 1) - 1) (c .before .before .before .before .before .before .before .before .args .s .now) _ (c .before .before .number2 .ensures) (greatest-half (c .before .before .before .before .before .before .before .before .args .width) _ (c .before .before .before .before .before .greatest .ensures)) (c .enum-told2 .given .1))
+returns-5 c =
+    let at-number2 = c .before .before in
+    let at-if2 = at-number2 .before in
+    let at-greatest = at-if2 .before .before in
+    let at-if1 = at-greatest .before in
+    let at-args = at-if1 .before .before in
+    rw (signed-plain (bitsOf (at-args .args .width)) (at-args .args .s .now) (at-if1 .if1 .left) (at-if2 .if2 .left), ← other-read _ (2 ^ (bitsOf (at-args .args .width) - 1) - 1) (at-args .args .s .now) _ (at-number2 .number2 .ensures) (greatest-half (at-args .args .width) _ (at-greatest .greatest .ensures)) (c .enum-told2 .given .1))
 
 pub signed-op-spec : {M : Type 1} → statement M
 signed-op-spec = tie.close (tie.spec returns (λ c κs. search needs) (λ c. search needs) (λ c. search needs) (λ c. search needs) (λ c. search needs) (λ c. search needs) (λ c κs. search needs) (λ c. search needs) negative-op-requires (λ c. search needs) returns-2 returns-3 (λ c κs. search needs) (λ c. search needs) cast-t21 (λ c. search needs) returns-4 returns-5)

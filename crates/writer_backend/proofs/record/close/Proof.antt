@@ -16,10 +16,14 @@ same-length c = search needs
 
 returns : tie.Need-returns
 returns c =
-    let a = c .before .before .before .before .before .before .before .args in
-    let w = c .before .before .put-word in
-    rw (not-true (a .has) (c .before .before .before .before .before .if1 .taken))
-    (close-empty (outputOf (a .m) (a .buf .now)) (a .k) (a .n) (a .alt) _ (putOut (w .result) (w .last .1 .0)) (w .ensures) (c .before .before .before .empty-close .ensures))
+    let at-put-word = c .before .before in
+    let at-empty-close = at-put-word .before in
+    let at-if1 = at-empty-close .before .before in
+    let at-args = at-if1 .before .before in
+    let a = at-args .args in
+    let w = at-put-word .put-word in
+    rw (not-true (a .has) (at-if1 .if1 .taken))
+    (close-empty (outputOf (a .m) (a .buf .now)) (a .k) (a .n) (a .alt) _ (putOut (w .result) (w .last .1 .0)) (w .ensures) (at-empty-close .empty-close .ensures))
 
 plain-close-requires : tie.Need-plain-close-requires
 plain-close-requires c κs = search needs
@@ -32,10 +36,15 @@ same-length-2 c = search needs
 
 returns-2 : tie.Need-returns-2
 returns-2 c =
-    let a = c .before .before .before .before .before .before .before .before .args in
-    let w = c .before .before .put-word2 in
-    rw (not-false (a .has) (c .before .before .before .before .before .before .if1 .left), not-true (a .alt) (c .before .before .before .before .before .if2 .taken))
-    (close-plain (outputOf (a .m) (a .buf .now)) (a .k) (a .n) _ (putOut (w .result) (w .last .1 .0)) (w .ensures) (c .before .before .before .plain-close .ensures))
+    let at-put-word2 = c .before .before in
+    let at-plain-close = at-put-word2 .before in
+    let at-if2 = at-plain-close .before .before in
+    let at-if1 = at-if2 .before in
+    let at-args = at-if1 .before .before in
+    let a = at-args .args in
+    let w = at-put-word2 .put-word2 in
+    rw (not-false (a .has) (at-if1 .if1 .left), not-true (a .alt) (at-if2 .if2 .taken))
+    (close-plain (outputOf (a .m) (a .buf .now)) (a .k) (a .n) _ (putOut (w .result) (w .last .1 .0)) (w .ensures) (at-plain-close .plain-close .ensures))
 
 slice-aggregate-put : tie.Need-slice-aggregate-put
 slice-aggregate-put c = search needs
@@ -48,9 +57,13 @@ same-length-3 c = search needs
 
 returns-3 : tie.Need-returns-3
 returns-3 c =
-    let a = c .before .before .before .before .before .before .before .before .before .before .args in
-    let w = c .before .before .before .before .put in
-    rw (not-false (a .has) (c .before .before .before .before .before .before .before .before .if1 .left), not-false (a .alt) (c .before .before .before .before .before .before .before .if2 .left))
+    let at-put = c .before .before .before .before in
+    let at-if2 = at-put .before .before .before in
+    let at-if1 = at-if2 .before in
+    let at-args = at-if1 .before .before in
+    let a = at-args .args in
+    let w = at-put .put in
+    rw (not-false (a .has) (at-if1 .if1 .left), not-false (a .alt) (at-if2 .if2 .left))
     (close-first (outputOf (a .m) (a .buf .now)) (a .k) (a .n) (putOut (w .result) (w .last .1 .0)) (w .ensures) (c .if3 .taken))
 
 put-spaces-requires : tie.Need-put-spaces-requires
@@ -61,11 +74,17 @@ same-length-4 c = search needs
 
 returns-4 : tie.Need-returns-4
 returns-4 c =
-    let a = c .before .before .before .before .before .before .before .before .before .before .before .before .before .before .before .before .before .args in
-    let w = c .before .before .before .before .before .before .before .before .before .before .before .put in
-    let v = c .before .before .before .before .put-spaces in
-    rw (not-false (a .has) (c .before .before .before .before .before .before .before .before .before .before .before .before .before .before .before .if1 .left), not-false (a .alt) (c .before .before .before .before .before .before .before .before .before .before .before .before .before .before .if2 .left))
-    (close-second (outputOf (a .m) (a .buf .now)) (a .k) (a .n) (putOut (w .result) (w .last .1 .0)) (w .ensures) (c .before .before .before .before .before .before .before .if3 .left) (putOut (v .result) (v .last .1 .0)) (v .ensures) (c .if4 .taken))
+    let at-put-spaces = c .before .before .before .before in
+    let at-if3 = at-put-spaces .before .before .before in
+    let at-put = at-if3 .before .before .before .before in
+    let at-if2 = at-put .before .before .before in
+    let at-if1 = at-if2 .before in
+    let at-args = at-if1 .before .before in
+    let a = at-args .args in
+    let w = at-put .put in
+    let v = at-put-spaces .put-spaces in
+    rw (not-false (a .has) (at-if1 .if1 .left), not-false (a .alt) (at-if2 .if2 .left))
+    (close-second (outputOf (a .m) (a .buf .now)) (a .k) (a .n) (putOut (w .result) (w .last .1 .0)) (w .ensures) (at-if3 .if3 .left) (putOut (v .result) (v .last .1 .0)) (v .ensures) (c .if4 .taken))
 
 bracket-of-requires : tie.Need-bracket-of-requires
 bracket-of-requires c κs = search needs
@@ -78,12 +97,21 @@ same-length-5 c = search needs
 
 returns-5 : tie.Need-returns-5
 returns-5 c =
-    let a = c .before .before .before .before .before .before .before .before .before .before .before .before .before .before .before .before .before .before .before .before .before .before .before .args in
-    let w = c .before .before .before .before .before .before .before .before .before .before .before .before .before .before .before .before .before .put in
-    let v = c .before .before .before .before .before .before .before .before .before .before .put-spaces in
-    let u = c .before .before .put-word3 in
-    rw (not-false (a .has) (c .before .before .before .before .before .before .before .before .before .before .before .before .before .before .before .before .before .before .before .before .before .if1 .left), not-false (a .alt) (c .before .before .before .before .before .before .before .before .before .before .before .before .before .before .before .before .before .before .before .before .if2 .left))
-    (close-last (outputOf (a .m) (a .buf .now)) (a .k) (a .n) (putOut (w .result) (w .last .1 .0)) (w .ensures) (c .before .before .before .before .before .before .before .before .before .before .before .before .before .if3 .left) (putOut (v .result) (v .last .1 .0)) (v .ensures) _ (putOut (u .result) (u .last .1 .0)) (c .before .before .before .before .before .before .if4 .left) (c .before .before .before .bracket-of .ensures) (u .ensures))
+    let at-put-word3 = c .before .before in
+    let at-bracket-of = at-put-word3 .before in
+    let at-if4 = at-bracket-of .before .before .before in
+    let at-put-spaces = at-if4 .before .before .before .before in
+    let at-if3 = at-put-spaces .before .before .before in
+    let at-put = at-if3 .before .before .before .before in
+    let at-if2 = at-put .before .before .before in
+    let at-if1 = at-if2 .before in
+    let at-args = at-if1 .before .before in
+    let a = at-args .args in
+    let w = at-put .put in
+    let v = at-put-spaces .put-spaces in
+    let u = at-put-word3 .put-word3 in
+    rw (not-false (a .has) (at-if1 .if1 .left), not-false (a .alt) (at-if2 .if2 .left))
+    (close-last (outputOf (a .m) (a .buf .now)) (a .k) (a .n) (putOut (w .result) (w .last .1 .0)) (w .ensures) (at-if3 .if3 .left) (putOut (v .result) (v .last .1 .0)) (v .ensures) _ (putOut (u .result) (u .last .1 .0)) (at-if4 .if4 .left) (at-bracket-of .bracket-of .ensures) (u .ensures))
 
 pub close-spec : {M : Type 1} → statement M
 close-spec =

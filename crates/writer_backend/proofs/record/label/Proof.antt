@@ -24,7 +24,11 @@ same-length : tie.Need-same-length
 same-length c = search needs
 
 returns : tie.Need-returns
-returns c = rw (c .before .before .before .before .before .before .before .before .before .enum-told .given .1, ← c .before .before .before .before .before .before .before .try-put .ensures) (c .before .before .try-put2 .ensures)
+returns c =
+    let at-try-put2 = c .before .before in
+    let at-try-put = at-try-put2 .before .before .before .before .before in
+    let at-enum-told = at-try-put .before .before in
+    rw (at-enum-told .enum-told .given .1, ← at-try-put .try-put .ensures) (at-try-put2 .try-put2 .ensures)
 
 returns-2 : tie.Need-returns-2
 returns-2 c = rw (c .enum-told2 .given .1)

@@ -14,8 +14,13 @@ returns c =
 
 returns-2 : tie.Need-returns-2
 returns-2 c =
-    let a = c .before .before .before .before .before .before .before .before .before .before .before .before .before .before .before .before .before .before .args in
-    pieces-tried (a .k) (a .margin) (placeOf (a .p) (a .name .now)) (putOut (a .t) (a .buf .now)) (a .has) (a .alt) (c .before .before .before .before .before .before .before .before .before .before .before .separator-of .ensures) (c .before .before .before .before .before .before .before .before .before .before .try-word .ensures) (c .before .before .before .before .before .before .try-margin .ensures) (c .before .before .label .ensures)
+    let at-label = c .before .before in
+    let at-try-margin = at-label .before .before .before .before in
+    let at-try-word = at-try-margin .before .before .before .before in
+    let at-separator-of = at-try-word .before in
+    let at-args = at-separator-of .before .before .before .before .before .before .before in
+    let a = at-args .args in
+    pieces-tried (a .k) (a .margin) (placeOf (a .p) (a .name .now)) (putOut (a .t) (a .buf .now)) (a .has) (a .alt) (at-separator-of .separator-of .ensures) (at-try-word .try-word .ensures) (at-try-margin .try-margin .ensures) (at-label .label .ensures)
 
 pub place-pieces-spec : {M : Type 1} → statement M
 place-pieces-spec = tie.close (tie.spec (λ c κs. search needs) (λ c. search needs) (λ c. search needs) returns (λ c κs. search needs) (λ c κs. search needs) (λ c κs. search needs) (λ c κs. search needs) (λ c. search needs) returns-2)

@@ -27,13 +27,21 @@ same-length : tie.Need-same-length
 same-length c = search needs
 
 returns : tie.Need-returns
-returns c = let a = c .before .before .before .before .before .before .before .before .args in rw (c .before .before .before .before .enum-told .given .1) (c .before .before .put .ensures ∙ tries-one (outputOf (a .m) (a .buf .now)) (a .name .now))
+returns c =
+    let at-put = c .before .before in
+    let at-enum-told = at-put .before .before in
+    let at-args = at-enum-told .before .before .before .before in
+    let a = at-args .args in rw (at-enum-told .enum-told .given .1) (at-put .put .ensures ∙ tries-one (outputOf (a .m) (a .buf .now)) (a .name .now))
 
 same-length-2 : tie.Need-same-length-2
 same-length-2 c = search needs
 
 returns-2 : tie.Need-returns-2
-returns-2 c = let a = c .before .before .before .before .before .before .before .before .args in rw (c .before .before .before .before .enum-told2 .given .1) (c .before .before .put2 .ensures ∙ tries-one (outputOf (a .m) (a .buf .now)) (a .name .now))
+returns-2 c =
+    let at-put2 = c .before .before in
+    let at-enum-told2 = at-put2 .before .before in
+    let at-args = at-enum-told2 .before .before .before .before in
+    let a = at-args .args in rw (at-enum-told2 .enum-told2 .given .1) (at-put2 .put2 .ensures ∙ tries-one (outputOf (a .m) (a .buf .now)) (a .name .now))
 
 returns-3 : tie.Need-returns-3
 returns-3 c = rw (c .enum-told3 .given .1)

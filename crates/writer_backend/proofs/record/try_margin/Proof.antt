@@ -3,7 +3,10 @@ use Rattle.writer_backend.proofs.record.try_margin.Statement.{statement
 use Rattle.writer_backend.proofs.record.try_margin.Tie as tie
 
 returns : tie.Need-returns
-returns c = rw (c .before .before .before .before .if1 .taken) (c .before .before .try-spaces .ensures)
+returns c =
+    let at-try-spaces = c .before .before in
+    let at-if1 = at-try-spaces .before .before in
+    rw (at-if1 .if1 .taken) (at-try-spaces .try-spaces .ensures)
 
 returns-2 : tie.Need-returns-2
 returns-2 c = rw (c .if1 .left)
