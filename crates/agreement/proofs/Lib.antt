@@ -2,7 +2,7 @@ pub mod Leaves
 pub mod Output
 pub mod Keeping
 pub mod Moves
-pub mod Track
+pub mod Held
 pub mod Agree
 pub mod Counting
 pub mod Known

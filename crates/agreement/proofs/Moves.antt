@@ -1,147 +1,143 @@
--- How the formatter follows the ledger, call by call.
-use mathlib.Core.Bool.{Bool, true, false, cond}
-use mathlib.Core.Path.{_≡_, refl, ap}
-use mathlib.Core.List.{List, [], _∷_, _++_}
-use Prim.Native.Nat.{ℕ, zero, suc, _+_, _-_}
+-- The formatter is a function of the ledger, call by call, as long as nothing is refused for want of room.
+use mathlib.Core.Path.{_≡_, refl, sym, ap, _∙_}
+use mathlib.Core.List.{List, [], _∷_, _++_, append-assoc, append-nil}
+use Prim.Native.Nat.{ℕ, zero, suc, _+_, _-_, _*_}
 use native.Mathlib.Omega.{arith}
 use lib.ListN.{length}
 use Rattle.formatting.specs.declared.flags.FormattingFlags.{FormattingFlags}
-use Rattle.str_writer.specs.Value.{Value, textOf, leaves}
-use Rattle.agreement.specs.declared.Kind.{Kind}
-use Rattle.agreement.specs.Call.{Place, Call, opens, place, value, sub, endsub, finish, nameOf, valueFault, cutNumber, openFault, subFault}
-use Rattle.agreement.specs.Ledger.{Ledger, Open, building, within, marginOf, ready, meets, feed, closing, placing}
-use Rattle.agreement.specs.Model.{Mode, counting, writing, Output, PieceOutcome, putValue, hold, tries, stops, Entry, builder, outer, State, Out, readyTop, namePieces, placePieces, closePieces, stepIn, step, run, cutIn, beyond}
-use Rattle.agreement.specs.Agreement.{Whole}
-use Rattle.agreement.proofs.Leaves.{leaves-fit}
-use Rattle.agreement.proofs.Output.{Kept, KeptIn, KeptBy, put-kept}
+use Rattle.str_writer.specs.Value.{textOf, leaves}
+use Rattle.calls.specs.Call.{Place, Call, opens, place, value, sub, endsub, finish, openPieces, placePieces, closePieces, cutNumber, hold}
+use Rattle.calls.specs.Ledger.{Open, building, within, Ledger, builders, marginOf, top, hasPrinted, meets, change, changed, unlessMet, feed, ledger}
+use Rattle.calls.specs.Ledger.{Builder as Having}
+use Rattle.calls.specs.Model.{Mode, Builder, Entry, builder, outer, State, Out, inner, cutIn, faultOf, move, emit, holds, settled, guard, step, run}
+use Rattle.agreement.proofs.Output.{after, Fits, fits-left, put-law, tries-law, stops-law, Kept, KeptIn, same-cut, inside, kept-after, put-kept}
 use Rattle.agreement.proofs.Keeping.{run-keep}
 
 -- every call keeps what every piece keeps
-module _ (m₀ : Mode) (b₀ : List ℕ) where
-  abbrev pub KeptSt : State → Type 0
-  KeptSt F = KeptIn m₀ b₀ (F .output)
+pub run-kept : (m : Mode) (b : List ℕ) (F : State) (cs : List Call) → KeptIn m b (F .output) → KeptIn m b (run F cs .state .output)
+run-kept m b = run-keep (Kept m b) (put-kept m b)
 
-  pub value-kept : (d : Output) (f : FormattingFlags) (v : Value) → KeptIn m₀ b₀ d → KeptBy m₀ b₀ (putValue d f v)
-  value-kept d f v h = put-kept m₀ b₀ d (textOf f v) (λ n. leaves n v) (λ n. leaves-fit n v) h
+-- the builder that one of the ledger is in the formatter, with what it holds
+abbrev pub holding : ℕ → Having → Builder
+holding h B = record { kind = B .kind; hasField = B .hasField; held = h }
 
-  pub run-kept : (F : State) (cs : List Call) → KeptSt F → KeptSt (run F cs .state)
-  run-kept = run-keep (Kept m₀ b₀) (λ m b t l f h. put-kept m₀ b₀ (record { mode = m; bytes = b }) t l f h .1)
+-- the entries that a pile has: the margins that its entries below give, nothing held
+abbrev pub entries : List Open → List Entry
+entries [] = []
+entries (building B ∷ p) = builder (holding 0 B) ∷ entries p
+entries (within f ∷ p) = outer (record { flags = f; margin = marginOf p }) ∷ entries p
 
--- the pile that a stack shows, and the ledger that a state and a text show
-abbrev pub shape : List Entry → List Open
-shape [] = []
-shape (builder k has h ∷ s) = building k has ∷ shape s
-shape (outer f m ∷ s) = within f ∷ shape s
+inner-top : (p : List Open) → inner (entries p) ≡ top p
+inner-top [] = refl
+inner-top (building B ∷ p) = refl
+inner-top (within f ∷ p) = refl
 
-abbrev pub shown : List ℕ → State → Ledger
-shown t F = record { text = t; flags = F .flags; pile = shape (F .stack) }
+pub depth : (p : List Open) → length (entries p) ≡ length p
+depth [] = refl
+depth (building B ∷ p) = ap suc (depth p)
+depth (within f ∷ p) = ap suc (depth p)
 
-pub ready-shape : (s : List Entry) → ready (shape s) ≡ readyTop s
-ready-shape [] = refl
-ready-shape (builder k has h ∷ s) = refl
-ready-shape (outer f m ∷ s) = refl
+pub raised : (p : List Open) → marginOf p + 4 ≡ 4 * suc (builders p)
+raised p = omega arith
 
-pub length-shape : (s : List Entry) → length (shape s) ≡ length s
-length-shape [] = refl
-length-shape (builder k has h ∷ s) = ap suc (length-shape s)
-length-shape (outer f m ∷ s) = ap suc (length-shape s)
+pub lower : (B : Having) (p : List Open) → marginOf (building B ∷ p) - 4 ≡ marginOf p
+lower B p = omega arith
 
-abbrev st : Output → FormattingFlags → ℕ → List Entry → State
-st d f m s = record { output = d; flags = f; margin = m; stack = s }
+-- the ledger's pieces only grow
+feed-grows : (L : Ledger) (c : Call) → (us : List (List ℕ)) × (feed L c .pieces ≡ L .pieces ++ us)
+feed-grows L c = go (meets L c)
+  where
+    go : (a : ℕ) → (us : List (List ℕ)) × (unlessMet a (changed L (change L c)) L .pieces ≡ L .pieces ++ us)
+    go zero = (_, refl)
+    go (suc a) = ([], sym (append-nil (L .pieces)))
 
-abbrev out : ℕ → Output → FormattingFlags → ℕ → List Entry → Out
-out a d f m s = record { answer = a; state = st d f m s }
+grows : (L : Ledger) (cs : List Call) → (us : List (List ℕ)) × (ledger L cs .pieces ≡ L .pieces ++ us)
+grows L [] = ([], sym (append-nil (L .pieces)))
+grows L (c ∷ cs) =
+    let g = feed-grows L c in
+    let r = grows (feed L c) cs in
+    (g .0 ++ r .0, r .1 ∙ ap (λ (t : List (List ℕ)). t ++ r .0) (g .1) ∙ append-assoc (L .pieces) (g .0) (r .0))
 
-abbrev lg : List ℕ → FormattingFlags → List Open → Ledger
-lg t f p = record { text = t; flags = f; pile = p }
+-- what each call meets
+abbrev pub faults : Ledger → List Call → List ℕ
+faults L [] = []
+faults L (c ∷ cs) = meets L c ∷ faults (feed L c) cs
 
-abbrev tried : Output → FormattingFlags → ℕ → Kind → Bool → Place → PieceOutcome
-tried d f m k has x = tries d (placePieces k has (f .«is_alternate») m x)
-
-abbrev stopped : Output → FormattingFlags → ℕ → Kind → Bool → PieceOutcome
-stopped d f m k has = stops d (closePieces k has (f .«is_alternate») (m - 4))
-
--- what a call that meets nothing does to the formatter, and to the ledger whose text is t
-pub data Move (t : List ℕ) : State → Call → Out → Ledger → Type 0 where
-  open-builder : (d : Output) (f : FormattingFlags) (m : ℕ) (s : List Entry) (k : Kind) (name : List ℕ) →
-      Move t (st d f m s) (opens k name)
-      (out 0 (tries d (namePieces k name) .output) f (m + 4) (builder k false (tries d (namePieces k name) .answer) ∷ s))
-      (lg (t ++ nameOf k name) f (building k false ∷ shape s))
-  put-place : (d : Output) (f : FormattingFlags) (m : ℕ) (s : List Entry) (k : Kind) (has : Bool) (h : ℕ) (x : Place) →
-      Move t (st d f m (builder k has h ∷ s)) (place x)
-      (out 0 (tried d f m k has x .output) f m (builder k true (hold h (tried d f m k has x .answer)) ∷ s))
-      (placing t f x (building k has ∷ shape s))
-  put-value : (d : Output) (f : FormattingFlags) (m : ℕ) (s : List Entry) (v : Value) →
-      Move t (st d f m s) (value v) (out (putValue d f v .answer) (putValue d f v .output) f m s) (lg (t ++ textOf f v) f (shape s))
-  enter-sub : (d : Output) (f : FormattingFlags) (m : ℕ) (s : List Entry) (g : FormattingFlags) →
-      Move t (st d f m s) (sub g) (out 0 d g m (outer f m ∷ s)) (lg t g (within f ∷ shape s))
-  leave-sub : (d : Output) (f : FormattingFlags) (m : ℕ) (s : List Entry) (g : FormattingFlags) (n : ℕ) →
-      Move t (st d f m (outer g n ∷ s)) endsub (out 0 d g n s) (lg t g (shape s))
-  close-builder : (d : Output) (f : FormattingFlags) (m : ℕ) (s : List Entry) (k : Kind) (has : Bool) →
-      Move t (st d f m (builder k has zero ∷ s)) finish
-      (out (stopped d f m k has .answer) (stopped d f m k has .output) f (m - 4) s)
-      (lg (t ++ closing k has (f .«is_alternate») (marginOf (shape s))) f (shape s))
-  answer-held : (d : Output) (f : FormattingFlags) (m : ℕ) (s : List Entry) (k : Kind) (has : Bool) (h : ℕ) →
-      Move t (st d f m (builder k has (suc h) ∷ s)) finish (out (suc h) d f m s)
-      (lg (t ++ closing k has (f .«is_alternate») (marginOf (shape s))) f (shape s))
-
--- a call that cuts no string, as far as the mode tests it
+-- calls that cut no string, as far as the mode tests it
 abbrev pub Uncut : Mode → Call → Type 0
-Uncut m (opens k name) = Unit {0}
-Uncut m (place x) = Unit {0}
-Uncut m (value v) = cutIn m (cutNumber v) ≡ 0
-Uncut m (sub f) = Unit {0}
-Uncut m endsub = Unit {0}
-Uncut m finish = Unit {0}
+Uncut m c = cutIn m (cutNumber c) ≡ 0
 
-no-cut : (m : Mode) → cutIn m 0 ≡ 0
-no-cut (counting n) = refl
-no-cut (writing c) = refl
+abbrev pub AllUncut : Mode → List Call → Type 0
+AllUncut m [] = Unit {0}
+AllUncut m (c ∷ cs) = Uncut m c × AllUncut m cs
 
-pub whole-uncut : (m : Mode) (c : Call) → Whole c → Uncut m c
-whole-uncut m (opens k name) w = tt
-whole-uncut m (place x) w = tt
-whole-uncut m (value v) w = rw w (no-cut m)
-whole-uncut m (sub f) w = tt
-whole-uncut m endsub w = tt
-whole-uncut m finish w = tt
+-- what a call that meets nothing does
+abbrev pub does : State → Call → Out
+does F c = settled (holds c) (move F c) (emit F c)
 
-module _ (t : List ℕ) (d : Output) (f : FormattingFlags) (m : ℕ) where
-  move-place : (s : List Entry) (x : Place) → meets (shown t (st d f m s)) (place x) ≡ 0
-      → Move t (st d f m s) (place x) (stepIn (st d f m s) (place x)) (feed (shown t (st d f m s)) (place x))
-  move-place [] x e = absurd (omega arith)
-  move-place (builder k has h ∷ s) x e = rw e (put-place d f m s k has h x)
-  move-place (outer g n ∷ s) x e = absurd (omega arith)
+hold-zero : (a : ℕ) → hold a 0 ≡ a
+hold-zero zero = refl
+hold-zero (suc a) = refl
 
-  move-endsub : (s : List Entry) → meets (shown t (st d f m s)) endsub ≡ 0
-      → Move t (st d f m s) endsub (stepIn (st d f m s) endsub) (feed (shown t (st d f m s)) endsub)
-  move-endsub [] e = absurd (omega arith)
-  move-endsub (builder k has h ∷ s) e = absurd (omega arith)
-  move-endsub (outer g n ∷ s) e = leave-sub d f m s g n
+module _ (m : Mode) (b : List ℕ) where
+  -- a formatter whose entries and margin are as the pile has them judges as the ledger does
+  pub fault-law : (F : State) (L : Ledger) (c : Call) → KeptIn m b (F .output) → F .margin ≡ marginOf (L .pile) → inner (F .stack) ≡ top (L .pile) → length (F .stack) ≡ length (L .pile)
+      → Uncut m c → faultOf F c ≡ meets L c
+  fault-law F L c k g i l w =
+      rw (inside m b (F .output .mode) (F .output .bytes) k, same-cut m b (F .output .mode) (F .output .bytes) (cutNumber c) k, w, g, i, l) (hold-zero (meets L c))
 
-  move-finish : (s : List Entry) → meets (shown t (st d f m s)) finish ≡ 0
-      → Move t (st d f m s) finish (stepIn (st d f m s) finish) (feed (shown t (st d f m s)) finish)
-  move-finish [] e = absurd (omega arith)
-  move-finish (builder k has zero ∷ s) e = close-builder d f m s k has
-  move-finish (builder k has (suc h) ∷ s) e = answer-held d f m s k has h
-  move-finish (outer g n ∷ s) e = absurd (omega arith)
+  fits-before : (L : Ledger) (cs : List Call) → Fits m b (ledger L cs .pieces) → Fits m b (L .pieces)
+  fits-before L cs h = let g = grows L cs in fits-left m b (L .pieces) (g .0) (rw (g .1) at h)
 
-  move-in : (s : List Entry) (c : Call) → m ≡ marginOf (shape s) → Uncut (d .mode) c → meets (shown t (st d f m s)) c ≡ 0
-      → Move t (st d f m s) c (stepIn (st d f m s) c) (feed (shown t (st d f m s)) c)
-  move-in s (opens k name) g w e =
-      let e2 : openFault (readyTop s) (length s) m (nameOf k name) ≡ 0 = rw (ready-shape s, length-shape s, ← g) at e in
-      rw (e, e2) (open-builder d f m s k name)
-  move-in s (place x) g w e = move-place s x e
-  move-in s (value v) g w e =
-      let e2 : cond (readyTop s) (valueFault v) 8 ≡ 0 = rw (ready-shape s) at e in
-      let e3 : hold (cond (readyTop s) (valueFault v) 8) (cutIn (d .mode) (cutNumber v)) ≡ 0 = rw (e2, w) in
-      rw (e, e3) (put-value d f m s v)
-  move-in s (sub h) g w e =
-      let e2 : subFault (readyTop s) (length s) ≡ 0 = rw (ready-shape s, length-shape s) at e in
-      rw (e, e2) (enter-sub d f m s h)
-  move-in s endsub g w e = move-endsub s e
-  move-in s finish g w e = move-finish s e
+  -- the formatter that a ledger has, started in mode m over the bytes b
+  abbrev pub stateOf : Ledger → State
+  stateOf L = record { output = after m b (L .pieces); flags = L .flags; margin = marginOf (L .pile); stack = entries (L .pile) }
 
-  pub move-shown : (s : List Entry) (c : Call) → beyond (d .mode) (d .bytes) ≡ 0 → m ≡ marginOf (shape s) → Uncut (d .mode) c → meets (shown t (st d f m s)) c ≡ 0
-      → Move t (st d f m s) c (step (st d f m s) c) (feed (shown t (st d f m s)) c)
-  move-shown s c z g w e = rw z (move-in s c g w e)
+  abbrev Follows : Ledger → Call → Type 0
+  Follows L c = does (stateOf L) c ≡ record { answer = 0; state = stateOf (changed L (change L c)) }
+
+  module _ (f : FormattingFlags) (ts : List (List ℕ)) where
+    abbrev lg : List Open → Ledger
+    lg p = record { flags = f; pile = p; pieces = ts }
+
+    does-place : (p : List Open) (x : Place) → meets (lg p) (place x) ≡ 0 → Fits m b (changed (lg p) (change (lg p) (place x)) .pieces) → Follows (lg p) (place x)
+    does-place [] x e h = absurd (omega arith)
+    does-place (building B ∷ p) x e h = rw (tries-law b m ts (placePieces (B .kind) (hasPrinted B) (f .«is_alternate») (marginOf (building B ∷ p)) x) h)
+    does-place (within g ∷ p) x e h = absurd (omega arith)
+
+    does-endsub : (p : List Open) → meets (lg p) endsub ≡ 0 → Follows (lg p) endsub
+    does-endsub [] e = absurd (omega arith)
+    does-endsub (building B ∷ p) e = absurd (omega arith)
+    does-endsub (within g ∷ p) e = rw append-nil
+
+    does-finish : (p : List Open) → meets (lg p) finish ≡ 0 → Fits m b (changed (lg p) (change (lg p) finish) .pieces) → Follows (lg p) finish
+    does-finish [] e h = absurd (omega arith)
+    does-finish (building B ∷ p) e h = rw (lower B p, stops-law b m ts (closePieces (B .kind) (hasPrinted B) (f .«is_alternate») (marginOf p)) h)
+    does-finish (within g ∷ p) e h = absurd (omega arith)
+
+  pub does-law : (L : Ledger) (c : Call) → meets L c ≡ 0 → Fits m b (changed L (change L c) .pieces) → Follows L c
+  does-law L (opens k name) e h = rw (tries-law b m (L .pieces) (openPieces k name) h, raised (L .pile))
+  does-law L (place x) e h = does-place (L .flags) (L .pieces) (L .pile) x e h
+  does-law L (value v) e h = rw (put-law b m (L .pieces) (textOf (L .flags) v) (λ n. leaves n v) h)
+  does-law L (sub f) e h = rw append-nil
+  does-law L endsub e h = does-endsub (L .flags) (L .pieces) (L .pile) e
+  does-law L finish e h = does-finish (L .flags) (L .pieces) (L .pile) e h
+
+  pub same-fault : (L : Ledger) (c : Call) → Fits m b (L .pieces) → Uncut m c → faultOf (stateOf L) c ≡ meets L c
+  same-fault L c h w = fault-law (stateOf L) L c (kept-after m b (L .pieces) h) refl (inner-top (L .pile)) (depth (L .pile)) w
+
+  -- a call whose pieces fit answers what it meets, and the formatter stays that of the ledger
+  pub step-law : (L : Ledger) (c : Call) → Fits m b (feed L c .pieces) → Uncut m c
+      → step (stateOf L) c ≡ record { answer = meets L c; state = stateOf (feed L c) }
+  step-law L c h w = rw (same-fault L c (fits-before L (c ∷ []) h) w) (go (meets L c) refl h)
+    where
+      go : (a : ℕ) → meets L c ≡ a → Fits m b (unlessMet a (changed L (change L c)) L .pieces)
+          → guard a (stateOf L) (does (stateOf L) c) ≡ record { answer = a; state = stateOf (unlessMet a (changed L (change L c)) L) }
+      go zero e i = does-law L c e i
+      go (suc a) e i = refl
+
+  -- a run whose text fits is what the ledger says of it
+  pub run-law : (L : Ledger) (cs : List Call) → Fits m b (ledger L cs .pieces) → AllUncut m cs
+      → run (stateOf L) cs ≡ record { answers = faults L cs; state = stateOf (ledger L cs) }
+  run-law L [] h w = refl
+  run-law L (c ∷ cs) h w = rw (step-law L c (fits-before (feed L c) cs h) (w .0), run-law (feed L c) cs h (w .1))

@@ -1,118 +1,157 @@
 -- What pieces do to the count and to the lent bytes: laws for both modes at once.
 use mathlib.Core.Path.{_≡_, refl, ap, _∙_}
 use mathlib.Core.Logic.{_⊎_, inl, inr}
-use mathlib.Core.List.{List, [], _∷_, _++_, append-assoc, append-nil}
+use mathlib.Core.List.{List, [], _∷_, _++_, append-assoc, append-nil, flatten}
 use Prim.Native.Nat.{ℕ, zero, suc, _+_, _-_, _≤_, _<_}
 use native.Mathlib.Nat.{add-assoc}
 use native.Mathlib.Decide.{decLe}
 use native.Mathlib.Omega.{arith}
 use lib.ListN.{length, take, length-append}
 use lib.Seq.{take-append-le, take-take, length-take-le}
-use borrow.Author.Tests.{lt-ltb, le-ltb, le-leb}
+use borrow.Author.Tests.{lt-ltb, le-ltb}
+use Rattle.error.specs.declared.Answer.the-variants.{NotEnoughSpace, CountTooLarge}
+use Rattle.error.specs.Answer.{numberOf}
 use Rattle.str_writer.specs.Write.{splice, placed}
 use Rattle.str_writer.proofs.Splice.{splice-splice, length-splice}
-use Rattle.agreement.specs.Model.{Mode, numberIn, counting, writing, Output, PieceOutcome, to, most, putIn, put, hold, goOn, tries, stops, beyond}
+use Rattle.calls.specs.Call.{hold}
+use Rattle.calls.specs.Model.{Mode, numberIn, counting, writing, Output, PieceOutcome, to, most, putIn, put, goOn, tries, stops, beyond, cutIn}
+
+flatten-append : (ts us : List (List ℕ)) → flatten (ts ++ us) ≡ flatten ts ++ flatten us
+unfolding flatten
+flatten-append [] us = refl
+flatten-append (t ∷ ts) us = rw (flatten-append ts us, append-assoc)
+
+length-both : (ts us : List (List ℕ)) → length (flatten (ts ++ us)) ≡ length (flatten ts) + length (flatten us)
+length-both ts us = rw (flatten-append, length-append)
+
+flatten-snoc : (ts : List (List ℕ)) (t : List ℕ) → flatten (ts ++ t ∷ []) ≡ flatten ts ++ t
+unfolding flatten
+flatten-snoc ts t = flatten-append ts (t ∷ []) ∙ rw append-nil
+
+length-snoc : (ts : List (List ℕ)) (t : List ℕ) → length (flatten (ts ++ t ∷ [])) ≡ length (flatten ts) + length t
+length-snoc ts t = rw (flatten-snoc, length-append)
 
 -- how far a mode may go, and what it answers past that
 abbrev pub capOf : Mode → List ℕ → ℕ
 capOf (counting n) b = most
-capOf (writing c) b = length b
+capOf (writing p) b = length b
 
 abbrev pub codeOf : Mode → ℕ
-codeOf (counting n) = 6
-codeOf (writing c) = 1
+codeOf (counting n) = numberOf CountTooLarge
+codeOf (writing p) = numberOf NotEnoughSpace
 
-abbrev pub Fits : Mode → List ℕ → List ℕ → Type 0
-Fits m b t = numberIn m + length t ≤ capOf m b
+-- the output once the text t has gone to it, and where there is room for that
+abbrev withText : Mode → List ℕ → List ℕ → Output
+withText (counting n) b t = record { mode = counting (n + length t); bytes = b }
+withText (writing p) b t = record { mode = writing (p + length t); bytes = splice b p t }
 
--- the output once the text t has gone to it
-abbrev pub after : Mode → List ℕ → List ℕ → Output
-after (counting n) b t = record { mode = counting (n + length t); bytes = b }
-after (writing c) b t = record { mode = writing (c + length t); bytes = splice b c t }
+abbrev Room : Mode → List ℕ → List ℕ → Type 0
+Room m b t = numberIn m + length t ≤ capOf m b
 
--- the bytes once a piece that leaves l is refused
+-- the same of pieces
+abbrev pub after : Mode → List ℕ → List (List ℕ) → Output
+after m b ts = withText m b (flatten ts)
+
+abbrev pub Fits : Mode → List ℕ → List (List ℕ) → Type 0
+Fits m b ts = Room m b (flatten ts)
+
+abbrev pub Passes : Mode → List ℕ → List (List ℕ) → Type 0
+Passes m b ts = capOf m b < numberIn m + length (flatten ts)
+
+abbrev pub sent : Mode → List ℕ → List (List ℕ) → PieceOutcome
+sent m b ts = record { answer = 0; output = after m b ts }
+
+pub fits-left : (m : Mode) (b : List ℕ) (ts us : List (List ℕ)) → Fits m b (ts ++ us) → Fits m b ts
+fits-left m b ts us h = omega (arith, rw length-both at h)
+
+-- what one piece does, by whether it fits; what a refused one leaves
 abbrev leftIn : Mode → List ℕ → (ℕ → List ℕ) → List ℕ
 leftIn (counting n) b l = b
-leftIn (writing c) b l = splice b c (l (length b - c))
+leftIn (writing p) b l = splice b p (l (length b - p))
 
--- a piece that fits goes to the output; one that does not is refused
-in-fits : (m : Mode) (b t : List ℕ) (l : ℕ → List ℕ) → Fits m b t → putIn m b t l ≡ record { answer = 0; output = after m b t }
+in-fits : (m : Mode) (b t : List ℕ) (l : ℕ → List ℕ) → Room m b t → putIn m b t l ≡ record { answer = 0; output = withText m b t }
 unfolding placed
 in-fits (counting n) b t l h = rw (le-ltb _ _ h)
-in-fits (writing c) b t l h = rw (le-ltb _ _ h)
+in-fits (writing p) b t l h = rw (le-ltb _ _ h)
 
 in-over : (m : Mode) (b t : List ℕ) (l : ℕ → List ℕ) → capOf m b < numberIn m + length t → putIn m b t l ≡ to m (leftIn m b l) (codeOf m)
 unfolding placed
 in-over (counting n) b t l h = rw (lt-ltb _ _ h)
-in-over (writing c) b t l h = rw (lt-ltb _ _ h)
+in-over (writing p) b t l h = rw (lt-ltb _ _ h)
 
 in-cases : (P : PieceOutcome → Type 0) (m : Mode) (b t : List ℕ) (l : ℕ → List ℕ)
-    → (Fits m b t → P (record { answer = 0; output = after m b t })) → (capOf m b < numberIn m + length t → P (to m (leftIn m b l) (codeOf m)))
-    → P (putIn m b t l)
+    → (Room m b t → P (record { answer = 0; output = withText m b t })) → P (to m (leftIn m b l) (codeOf m)) → P (putIn m b t l)
 in-cases P m b t l y n = go (decLe (numberIn m + length t) (capOf m b))
   where
-    go : Dec (Fits m b t) → P (putIn m b t l)
+    go : Dec (Room m b t) → P (putIn m b t l)
     go (yes h) = rw (in-fits m b t l h) (y h)
-    go (no h) = rw (in-over m b t l (omega arith)) (n (omega arith))
-
--- the same of a piece after the text t
-pub put-fits : (m : Mode) (b t s : List ℕ) (l : ℕ → List ℕ) → Fits m b (t ++ s)
-    → putIn (after m b t .mode) (after m b t .bytes) s l ≡ record { answer = 0; output = after m b (t ++ s) }
-put-fits (counting n) b t s l h =
-    rw (in-fits (counting (n + length t)) b s l (omega (arith, simp length-append at h)), length-append, add-assoc)
-put-fits (writing c) b t s l h =
-    let k : c + length t + length s ≤ length b = omega (arith, simp length-append at h) in
-    let j : c + length t ≤ length b = omega arith in
-    rw (in-fits (writing (c + length t)) (splice b c t) s l (rw length-splice k), splice-splice b c t s j, length-append, add-assoc)
-
-pub put-over : (m : Mode) (b t s : List ℕ) (l : ℕ → List ℕ) → Fits m b t → capOf m b < numberIn m + length (t ++ s)
-    → putIn (after m b t .mode) (after m b t .bytes) s l .answer ≡ codeOf m
-put-over (counting n) b t s l f h = ap (λ (r : PieceOutcome). r .answer) (in-over (counting (n + length t)) b s l (omega (arith, simp length-append at h)))
-put-over (writing c) b t s l f h =
-    let k : length b < c + length t + length s = omega (arith, simp length-append at h) in
-    ap (λ (r : PieceOutcome). r .answer) (in-over (writing (c + length t)) (splice b c t) s l (rw length-splice k))
-
--- the text of pieces
-abbrev pub joined : List (List ℕ) → List ℕ
-joined [] = []
-joined (s ∷ ss) = s ++ joined ss
+    go (no h) = rw (in-over m b t l (omega arith)) n
 
 pub hold-code : (m : Mode) (a : ℕ) → hold (codeOf m) a ≡ codeOf m
 hold-code (counting n) a = refl
-hold-code (writing c) a = refl
+hold-code (writing p) a = refl
 
-module _ (m : Mode) (b : List ℕ) where
-  fits-left : (t s : List ℕ) → Fits m b (t ++ s) → Fits m b t
-  fits-left t s h = omega (arith, simp length-append at h)
+module _ (b : List ℕ) where
+  pub put-law : (m : Mode) (ts : List (List ℕ)) (t : List ℕ) (l : ℕ → List ℕ) → Fits m b (ts ++ t ∷ [])
+      → putIn (after m b ts .mode) (after m b ts .bytes) t l ≡ sent m b (ts ++ t ∷ [])
+  put-law (counting n) ts t l h =
+      let k : n + length (flatten ts) + length t ≤ most = omega (arith, rw length-snoc at h) in
+      rw (in-fits (counting (n + length (flatten ts))) b t l k, length-snoc, add-assoc)
+  put-law (writing p) ts t l h =
+      let k : p + length (flatten ts) + length t ≤ length b = omega (arith, rw length-snoc at h) in
+      let j : p + length (flatten ts) ≤ length b = omega arith in
+      let i : p + length (flatten ts) + length t ≤ length (splice b p (flatten ts)) = rw (length-splice b p (flatten ts) j) k in
+      rw (in-fits (writing (p + length (flatten ts))) (splice b p (flatten ts)) t l i, splice-splice b p (flatten ts) t j, flatten-snoc, length-append, add-assoc)
 
-  pub tries-fits : (t : List ℕ) (ss : List (List ℕ)) → Fits m b (t ++ joined ss) → tries (after m b t) ss ≡ record { answer = 0; output = after m b (t ++ joined ss) }
-  tries-fits t [] h = rw append-nil
-  tries-fits t (s ∷ ss) h =
-      let k : Fits m b (t ++ s ++ joined ss) = rw append-assoc h in
-      rw (put-fits m b t s (λ n. []) (fits-left (t ++ s) (joined ss) k), tries-fits (t ++ s) ss k, append-assoc)
+  pub put-over : (m : Mode) (ts : List (List ℕ)) (t : List ℕ) (l : ℕ → List ℕ) → Fits m b ts → Passes m b (ts ++ t ∷ [])
+      → putIn (after m b ts .mode) (after m b ts .bytes) t l .answer ≡ codeOf m
+  put-over (counting n) ts t l f h =
+      let k : most < n + length (flatten ts) + length t = omega (arith, rw length-snoc at h) in
+      ap (λ (r : PieceOutcome). r .answer) (in-over (counting (n + length (flatten ts))) b t l k)
+  put-over (writing p) ts t l f h =
+      let k : length b < p + length (flatten ts) + length t = omega (arith, rw length-snoc at h) in
+      let i : length (splice b p (flatten ts)) < p + length (flatten ts) + length t = rw (length-splice b p (flatten ts) f) k in
+      ap (λ (r : PieceOutcome). r .answer) (in-over (writing (p + length (flatten ts))) (splice b p (flatten ts)) t l i)
 
-  pub tries-over : (t : List ℕ) (ss : List (List ℕ)) → Fits m b t → capOf m b < numberIn m + length (t ++ joined ss) → tries (after m b t) ss .answer ≡ codeOf m
-  tries-over t [] f h = absurd (omega (arith, rw append-nil at h))
-  tries-over t (s ∷ ss) f h = go (decLe (numberIn m + length (t ++ s)) (capOf m b)) (λ k. tries-over (t ++ s) ss k (rw append-assoc h))
-    where
-      go : Dec (Fits m b (t ++ s)) → (Fits m b (t ++ s) → tries (after m b (t ++ s)) ss .answer ≡ codeOf m) → tries (after m b t) (s ∷ ss) .answer ≡ codeOf m
-      go (yes k) ih = rw (put-fits m b t s (λ n. []) k) (ih k)
-      go (no k) ih = rw (put-over m b t s (λ n. []) f (omega arith), hold-code m)
+  module _ (m : Mode) where
+    snoc : (ts : List (List ℕ)) (u : List ℕ) (us : List (List ℕ)) → ts ++ u ∷ [] ++ us ≡ ts ++ u ∷ us
+    snoc ts u us = append-assoc ts (u ∷ []) us
 
-  pub stops-fits : (t : List ℕ) (ss : List (List ℕ)) → Fits m b (t ++ joined ss) → stops (after m b t) ss ≡ record { answer = 0; output = after m b (t ++ joined ss) }
-  stops-fits t [] h = rw append-nil
-  stops-fits t (s ∷ ss) h =
-      let k : Fits m b (t ++ s ++ joined ss) = rw append-assoc h in
-      rw (put-fits m b t s (λ n. []) (fits-left (t ++ s) (joined ss) k), stops-fits (t ++ s) ss k, append-assoc)
+    snoc-left : (ts : List (List ℕ)) (u : List ℕ) (us : List (List ℕ)) → Fits m b (ts ++ u ∷ us) → Fits m b (ts ++ u ∷ [])
+    snoc-left ts u us h = fits-left m b (ts ++ u ∷ []) us (rw snoc h)
+
+    pub tries-law : (ts us : List (List ℕ)) → Fits m b (ts ++ us) → tries (after m b ts) us ≡ sent m b (ts ++ us)
+    tries-law ts [] h = rw append-nil
+    tries-law ts (u ∷ us) h = rw (put-law m ts u (λ n. []) (snoc-left ts u us h), tries-law (ts ++ u ∷ []) us (rw snoc h), snoc)
+
+    pub stops-law : (ts us : List (List ℕ)) → Fits m b (ts ++ us) → stops (after m b ts) us ≡ sent m b (ts ++ us)
+    stops-law ts [] h = rw append-nil
+    stops-law ts (u ∷ us) h = rw (put-law m ts u (λ n. []) (snoc-left ts u us h), stops-law (ts ++ u ∷ []) us (rw snoc h), snoc)
+
+    pub tries-over : (ts us : List (List ℕ)) → Fits m b ts → Passes m b (ts ++ us) → tries (after m b ts) us .answer ≡ codeOf m
+    tries-over ts [] f h = absurd (omega (arith, rw append-nil at h))
+    tries-over ts (u ∷ us) f h = go (decLe (numberIn m + length (flatten (ts ++ u ∷ []))) (capOf m b)) (λ k. tries-over (ts ++ u ∷ []) us k (rw snoc h))
+      where
+        go : Dec (Fits m b (ts ++ u ∷ [])) → (Fits m b (ts ++ u ∷ []) → tries (after m b (ts ++ u ∷ [])) us .answer ≡ codeOf m) → tries (after m b ts) (u ∷ us) .answer ≡ codeOf m
+        go (yes k) ih = rw (put-law m ts u (λ n. []) k) (ih k)
+        go (no k) ih = rw (put-over m ts u (λ n. []) f (omega arith), hold-code m)
 
 -- pieces that stop at the first refusal answer what tried ones do
-pub stops-answer : (d : Output) (ss : List (List ℕ)) → stops d ss .answer ≡ tries d ss .answer
+pub stops-answer : (d : Output) (us : List (List ℕ)) → stops d us .answer ≡ tries d us .answer
 stops-answer d [] = refl
-stops-answer d (s ∷ ss) = go (put d s .answer) (put d s) _ refl (stops-answer (put d s .output) ss)
+stops-answer d (u ∷ us) = go (put d u .answer) (put d u) _ refl (stops-answer (put d u .output) us)
   where
     go : (a : ℕ) (r next : PieceOutcome) {x : ℕ} → r .answer ≡ a → next .answer ≡ x → goOn a r next .answer ≡ hold a x
     go zero r next e k = k
     go (suc a) r next e k = e
+
+-- pieces answer 0 or the code of the mode
+abbrev pub Coded : Mode → ℕ → Type 0
+Coded m a = (a ≡ 0) ⊎ (a ≡ codeOf m)
+
+hold-coded : (m : Mode) (a x : ℕ) → Coded m a → Coded m x → Coded m (hold a x)
+hold-coded m a x (inl e) k = rw e k
+hold-coded m a x (inr e) k = rw e (inr (hold-code m x))
 
 -- What every piece keeps: the mode, the bytes before the first cursor and their number, and a cursor that is in them
 abbrev pub Kept : Mode → List ℕ → Mode → List ℕ → Type 0
@@ -121,73 +160,66 @@ Kept (counting n) b₀ (writing c) b = ⊥
 Kept (writing p) b₀ (counting m) b = ⊥
 Kept (writing p) b₀ (writing c) b = (p ≤ c) × (c ≤ length b) × (length b ≡ length b₀) × (take p b ≡ take p b₀)
 
-take-splice : (p : ℕ) (b : List ℕ) (c : ℕ) (t : List ℕ) → p ≤ c → c ≤ length b → take p (splice b c t) ≡ take p b
-take-splice p b c t h k =
-    let l : p ≤ length (take c b) = rw (length-take-le c b k) h in
-    rw (append-assoc, take-append-le, take-take)
+abbrev pub KeptIn : Mode → List ℕ → Output → Type 0
+KeptIn m₀ b₀ d = Kept m₀ b₀ (d .mode) (d .bytes)
 
+-- so the code is the same, 3 is met in the same runs, and the cursor is in the lent bytes
 same-code : (m₀ : Mode) (b₀ : List ℕ) (m : Mode) (b : List ℕ) → Kept m₀ b₀ m b → codeOf m ≡ codeOf m₀
 same-code (counting n) b₀ (counting m) b h = refl
 same-code (counting n) b₀ (writing c) b h = absurd h
 same-code (writing p) b₀ (counting m) b h = absurd h
 same-code (writing p) b₀ (writing c) b h = refl
 
--- so the cursor is in the lent bytes
+pub same-cut : (m₀ : Mode) (b₀ : List ℕ) (m : Mode) (b : List ℕ) (c : ℕ) → Kept m₀ b₀ m b → cutIn m c ≡ cutIn m₀ c
+same-cut (counting n) b₀ (counting m) b c h = refl
+same-cut (counting n) b₀ (writing a) b c h = absurd h
+same-cut (writing p) b₀ (counting m) b c h = absurd h
+same-cut (writing p) b₀ (writing a) b c h = refl
+
 pub inside : (m₀ : Mode) (b₀ : List ℕ) (m : Mode) (b : List ℕ) → Kept m₀ b₀ m b → beyond m b ≡ 0
 inside (counting n) b₀ (counting m) b h = refl
 inside (counting n) b₀ (writing c) b h = absurd h
 inside (writing p) b₀ (counting m) b h = absurd h
-inside (writing p) b₀ (writing c) b h = rw (le-leb c (length b) (h .1))
+inside (writing p) b₀ (writing c) b h = rw (le-ltb (length b) c (h .1))
 
--- an answer is 0 or the code of the mode
-abbrev pub Coded : Mode → ℕ → Type 0
-Coded m a = (a ≡ 0) ⊎ (a ≡ codeOf m)
+take-splice : (p : ℕ) (b : List ℕ) (c : ℕ) (t : List ℕ) → p ≤ c → c ≤ length b → take p (splice b c t) ≡ take p b
+take-splice p b c t h k =
+    let l : p ≤ length (take c b) = rw (length-take-le c b k) h in
+    rw (append-assoc, take-append-le, take-take)
 
-pub hold-coded : (m : Mode) (a x : ℕ) → Coded m a → Coded m x → Coded m (hold a x)
-hold-coded m a x (inl e) k = rw e k
-hold-coded m a x (inr e) k = rw e (inr (hold-code m x))
+kept-splice : (p : ℕ) (b₀ : List ℕ) (c : ℕ) (b t : List ℕ) (d : ℕ) → Kept (writing p) b₀ (writing c) b → c + length t ≤ length b → p ≤ d → d ≤ length b
+    → Kept (writing p) b₀ (writing d) (splice b c t)
+kept-splice p b₀ c b t d h k i j =
+    let e = length-splice b c t k in
+    (i, omega arith, e ∙ h .2, take-splice p b c t (h .0) (h .1) ∙ h .3)
 
-abbrev pub KeptIn : Mode → List ℕ → Output → Type 0
-KeptIn m₀ b₀ d = Kept m₀ b₀ (d .mode) (d .bytes)
+-- a run keeps it at its start, and once pieces that fit have gone out
+pub kept-start : (m : Mode) (b : List ℕ) → numberIn m ≤ capOf m b → Kept m b m b
+kept-start (counting n) b h = tt
+kept-start (writing p) b h = (omega arith, h, refl, refl)
 
-module _ (t : List ℕ) (l : ℕ → List ℕ) (s : (n : ℕ) → length (l n) ≤ n) where
-  in-kept : (m₀ : Mode) (b₀ : List ℕ) (m : Mode) (b : List ℕ) → Kept m₀ b₀ m b → KeptIn m₀ b₀ (putIn m b t l .output)
-  in-kept (counting n) b₀ (counting m) b h = in-cases (λ (r : PieceOutcome). KeptIn (counting n) b₀ (r .output)) (counting m) b t l (λ k. tt) (λ k. tt)
-  in-kept (counting n) b₀ (writing c) b h = absurd h
-  in-kept (writing p) b₀ (counting m) b h = absurd h
-  in-kept (writing p) b₀ (writing c) b h =
-      in-cases (λ (r : PieceOutcome). KeptIn (writing p) b₀ (r .output)) (writing c) b t l
-      (λ k. spliced t (c + length t) k (omega arith) (omega arith))
-      (λ k. spliced (l (length b - c)) c (omega (arith, s (length b - c))) (omega arith) (omega arith))
-    where
-      spliced : (u : List ℕ) (d : ℕ) → c + length u ≤ length b → p ≤ d → d ≤ length b → Kept (writing p) b₀ (writing d) (splice b c u)
-      spliced u d k i j =
-          let e = length-splice b c u k in
-          (i, omega arith, e ∙ h .2, take-splice p b c u (h .0) (h .1) ∙ h .3)
+pub kept-after : (m : Mode) (b : List ℕ) (ts : List (List ℕ)) → Fits m b ts → KeptIn m b (after m b ts)
+kept-after (counting n) b ts h = tt
+kept-after (writing p) b ts h = kept-splice p b p b (flatten ts) (p + length (flatten ts)) (kept-start (writing p) b (omega arith)) h (omega arith) h
+
+-- a piece leaves no more than there is room for
+pub put-kept : (m₀ : Mode) (b₀ : List ℕ) (m : Mode) (b t : List ℕ) (l : ℕ → List ℕ) → ((n : ℕ) → length (l n) ≤ n) → Kept m₀ b₀ m b → KeptIn m₀ b₀ (putIn m b t l .output)
+put-kept (counting n) b₀ (counting m) b t l s h = in-cases (λ (r : PieceOutcome). KeptIn (counting n) b₀ (r .output)) (counting m) b t l (λ k. tt) tt
+put-kept (counting n) b₀ (writing c) b t l s h = absurd h
+put-kept (writing p) b₀ (counting m) b t l s h = absurd h
+put-kept (writing p) b₀ (writing c) b t l s h =
+    in-cases (λ (r : PieceOutcome). KeptIn (writing p) b₀ (r .output)) (writing c) b t l
+    (λ k. kept-splice p b₀ c b t (c + length t) h k (omega (arith, h .0)) k)
+    (kept-splice p b₀ c b (l (length b - c)) c h (omega (arith, s (length b - c), h .1)) (h .0) (h .1))
 
 module _ (m₀ : Mode) (b₀ : List ℕ) where
-  abbrev pub KeptBy : PieceOutcome → Type 0
-  KeptBy r = Coded m₀ (r .answer) × KeptIn m₀ b₀ (r .output)
-
-  pub put-kept : (d : Output) (t : List ℕ) (l : ℕ → List ℕ) → ((n : ℕ) → length (l n) ≤ n) → KeptIn m₀ b₀ d → KeptBy (putIn (d .mode) (d .bytes) t l)
-  put-kept d t l s h =
+  pub put-coded : (d : Output) (t : List ℕ) (l : ℕ → List ℕ) → KeptIn m₀ b₀ d → Coded m₀ (putIn (d .mode) (d .bytes) t l .answer)
+  put-coded d t l h =
       let e = same-code m₀ b₀ (d .mode) (d .bytes) h in
-      (in-cases (λ (r : PieceOutcome). Coded m₀ (r .answer)) (d .mode) (d .bytes) t l (λ k. inl refl) (λ k. inr e), in-kept t l s m₀ b₀ (d .mode) (d .bytes) h)
+      in-cases (λ (r : PieceOutcome). Coded m₀ (r .answer)) (d .mode) (d .bytes) t l (λ k. inl refl) (inr e)
 
-  piece-kept : (d : Output) (t : List ℕ) → KeptIn m₀ b₀ d → KeptBy (put d t)
-  piece-kept d t h = put-kept d t (λ n. []) (λ n. omega arith) h
-
-  pub tries-kept : (d : Output) (ss : List (List ℕ)) → KeptIn m₀ b₀ d → KeptBy (tries d ss)
-  tries-kept d [] h = (inl refl, h)
-  tries-kept d (s ∷ ss) h =
-      let k = piece-kept d s h in
-      let r = tries-kept (put d s .output) ss (k .1) in
-      (hold-coded m₀ _ _ (k .0) (r .0), r .1)
-
-  pub stops-kept : (d : Output) (ss : List (List ℕ)) → KeptIn m₀ b₀ d → KeptBy (stops d ss)
-  stops-kept d [] h = (inl refl, h)
-  stops-kept d (s ∷ ss) h = go (put d s .answer) (piece-kept d s h) (stops-kept (put d s .output) ss (piece-kept d s h .1))
-    where
-      go : (a : ℕ) → KeptBy (put d s) → KeptBy (stops (put d s .output) ss) → KeptBy (goOn a (put d s) (stops (put d s .output) ss))
-      go zero k r = r
-      go (suc a) k r = k
+  pub tries-coded : (d : Output) (us : List (List ℕ)) → KeptIn m₀ b₀ d → Coded m₀ (tries d us .answer)
+  tries-coded d [] h = inl refl
+  tries-coded d (u ∷ us) h =
+      hold-coded m₀ _ _ (put-coded d u (λ n. []) h)
+      (tries-coded (put d u .output) us (put-kept m₀ b₀ (d .mode) (d .bytes) u (λ n. []) (λ n. omega arith) h))

@@ -1,4 +1,1 @@
-pub mod Call
-pub mod Ledger
-pub mod Model
 pub mod Agreement

@@ -53,9 +53,15 @@ octets-short c = ⊎-elim
     (less c 0x800))
     (less c 0x80)
 
+pub short-scalar : (c : ℕ) → c < 0x800 → isScalar c ≡ true
+short-scalar c h = rw (lt-ltb c 0xD800 (omega arith))
+
 pub display-char : (c : ℕ) → isScalar c ≡ true → charDisplay c ≡ octets c
 unfolding charDisplay
 display-char c h = simp h
+
+pub display-ascii : (c : ℕ) → c < 0x80 → charDisplay c ≡ c ∷ []
+display-ascii c h = display-char c (short-scalar c (omega arith)) ∙ octets-1 c h
 
 pub display-none : (c : ℕ) → isScalar c ≡ false → charDisplay c ≡ []
 unfolding charDisplay
@@ -70,7 +76,7 @@ display-short c = go (isScalar c) refl
 
 -- a code below 128 is a character
 pub low-scalar : (c : ℕ) → c < 128 → isScalar c ≡ true
-low-scalar c h = simp (lt-ltb c 0xD800 (omega arith))
+low-scalar c h = short-scalar c (omega arith)
 
 -- a character is at most 10FFFF
 pub scalar-most : (c : ℕ) → isScalar c ≡ true → c ≤ 0x10FFFF

@@ -86,13 +86,6 @@ pub fn char_debug_len(c: u32) -> CharLen
 pub fn char_to_utf8(c: u32) -> Utf8Char
     ensures { λ r. ⌜ r ≡ utf8Char c (charDisplay c) ⌝ }
 {
-    if !is_char(c) {
-        return Utf8Char {
-            len: 0,
-            bytes: [0, 0, 0, 0],
-            answer: Answer::NotAChar,
-        };
-    }
     if c < 0x80 {
         let b0 = c as u8;
         return Utf8Char {
@@ -108,6 +101,13 @@ pub fn char_to_utf8(c: u32) -> Utf8Char
             len: 2,
             bytes: [b0, last, 0, 0],
             answer: Answer::Done,
+        };
+    }
+    if !is_char(c) {
+        return Utf8Char {
+            len: 0,
+            bytes: [0, 0, 0, 0],
+            answer: Answer::NotAChar,
         };
     }
     let before_last = (0x80 + c / 64 % 64) as u8;

@@ -7,7 +7,7 @@ use lib.Dec.{ltb, eqb}
 use Rattle.error.specs.Answer.{numberOf}
 use Rattle.error.specs.declared.Answer.the-variants.{Done, CountTooLarge}
 use Rattle.formatting.specs.FlagsAsNumber.{flagsOf}
-use Rattle.agreement.specs.Model.{counting, State, Out, most}
+use Rattle.calls.specs.Model.{counting, State, Out, most}
 use Rattle.formatter.specs.declared.head.Head.{Head}
 use Rattle.formatter.specs.declared.head.HeadStep.{HeadStep}
 use Rattle.formatter.specs.View.{stackOf, depthOf, marginOf, viewOut}

@@ -4,17 +4,18 @@
 ghost use mathlib.Core.Path.{_≡_};
 ghost use mathlib.Core.List.{[]};
 ghost use lib.Dec.{eqb};
-ghost use Rattle.agreement.specs.Model.{counting};
+ghost use Rattle.calls.specs.Model.{counting};
 ghost use Rattle.formatter.specs.View.{viewOut};
-ghost use Rattle.encoded_call.specs.Encoding.{callOf, decode, stepOr};
+ghost use Rattle.formatter.specs.Calls.{callOf, stepOr};
+ghost use Rattle.encoded_call.specs.Encoding.{decode};
 ghost use Rattle.run.specs.Played.{played};
 ghost use Rattle.compute_str_length.specs.declared.Added.{Added};
 ghost use Rattle.compute_str_length.specs.Total.{addTo, countingAt, CountsCall, CountsCallThenLen, CountsRun, CountsThenAdds};
-use encoded_call::Op;
-use encoded_call::call;
+use calls::Settings;
 use formatter::Head;
 use formatter::HeadStep;
-use formatting::FormattingFlags;
+use formatter::Op;
+use formatter::call;
 use run::Ran;
 use run::count_run_from;
 use writer_backend::WriterBackend;
@@ -46,12 +47,8 @@ fn add_to(total: usize, len: usize) -> Added
 fn call_from(total: usize, head: Head, stack: &mut [u32; 64], op: Op, text: &[u8]) -> HeadStep
     ensures { λ r. ⌜ viewOut r (now (stack .exit)) [] ≡ stepOr (countingAt total head (now (stack .entry))) (callOf op (now (text .entry))) ⌝ }
 {
-    let mode = WriterBackend {
-        counting: 1,
-        number: total,
-    };
     let from = Head {
-        mode,
+        mode: WriterBackend::counting(total),
         flags: head.flags,
         margin: head.margin,
         depth: head.depth,
@@ -102,10 +99,10 @@ impl ComputeStrLength {
 
     // Counts a run on from the total: its first refusal, with the place of that call, the total at the
     // end and how many entries are then open.
-    pub fn count_run(&mut self, flags: FormattingFlags, calls: &[u64], text: &[u8]) -> Ran
-        ensures { λ r. ⌜ CountsRun r (now (self .exit) .len) (played (counting (now (self .entry) .len)) [] flags (decode (now (calls .entry)) (now (text .entry)))) ⌝ }
+    pub fn count_run(&mut self, settings: Settings, calls: &[u64], text: &[u8]) -> Ran
+        ensures { λ r. ⌜ CountsRun r (now (self .exit) .len) (played (counting (now (self .entry) .len)) [] settings (decode (now (calls .entry)) (now (text .entry)))) ⌝ }
     {
-        let r = count_run_from(self.len, flags, calls, text);
+        let r = count_run_from(self.len, settings, calls, text);
         self.len = r.number;
         r
     }
@@ -121,15 +118,15 @@ pub struct CountedThenAdded {
 // A run counted and a length added after it, through one counter: its parameters are plain, so that
 // callers need no counter of their own. The length is added also where the run meets a refusal.
 pub fn count_run_then_add_len(
-    flags: FormattingFlags,
+    settings: Settings,
     calls: &[u64],
     text: &[u8],
     len: usize,
 ) -> CountedThenAdded
-    ensures { λ r. ⌜ CountsThenAdds r (played (counting 0) [] flags (decode (now (calls .entry)) (now (text .entry)))) len ⌝ }
+    ensures { λ r. ⌜ CountsThenAdds r (played (counting 0) [] settings (decode (now (calls .entry)) (now (text .entry)))) len ⌝ }
 {
     let mut c = ComputeStrLength::new();
-    let ran = c.count_run(flags, calls, text);
+    let ran = c.count_run(settings, calls, text);
     let answer = c.add_len(len);
     CountedThenAdded {
         ran,

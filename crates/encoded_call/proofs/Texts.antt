@@ -6,8 +6,9 @@ use Prim.Native.Nat.{ℕ, zero, suc, _+_, _-_, _≤_, _<_}
 use native.Mathlib.Omega.{arith}
 use lib.ListN.{length, take, drop}
 use borrow.Author.Tests.{le-leb, lt-leb}
-use Rattle.agreement.specs.Model.{State, Out, guard}
-use Rattle.encoded_call.specs.Encoding.{opAt, callOf, callAt}
+use Rattle.calls.specs.Model.{State, Out, guard}
+use Rattle.formatter.specs.Calls.{callOf}
+use Rattle.encoded_call.specs.Encoding.{opAt, callAt}
 
 -- the text of a call: past the pool, longer than the pool, or within it
 module _ (o i n a b : ℕ) (t : List ℕ) where

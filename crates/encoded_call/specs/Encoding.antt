@@ -6,13 +6,10 @@ use Prim.Native.Nat.{ℕ, zero, suc, _-_, _/_, _%_, _^_}
 use lib.Dec.{leb, ltb, eqb}
 use lib.IntN.{ℤ, pos, negsuc}
 use lib.ListN.{length, take, drop}
-use Rattle.error.specs.declared.Answer.the-variants.{WrongCall}
-use Rattle.error.specs.Answer.{numberOf}
 use Rattle.formatting.specs.FlagsAsNumber.{areFlags, flagsOf}
-use Rattle.agreement.specs.declared.Kind.the-variants.{Struct, Tuple, Set}
-use Rattle.agreement.specs.declared.Kind.the-variants as kind
-use Rattle.agreement.specs.Call.{Call, opens, place, value, sub, endsub, finish}
-use Rattle.agreement.specs.Model.{State, Out, guard, beyond, step}
+use Rattle.calls.specs.declared.Kind.the-variants.{Struct, Tuple, Set}
+use Rattle.calls.specs.declared.Kind.the-variants as kind
+use Rattle.calls.specs.Call.{Call}
 use Rattle.writer_backend.specs.declared.record.PlaceKind.the-variants.{Field, Item}
 use Rattle.writer_backend.specs.declared.record.PlaceKind.the-variants as place-kind
 use Rattle.value_writes.specs.declared.Form.{Form}
@@ -21,10 +18,10 @@ use Rattle.value_writes.specs.declared.Width.{Width}
 use Rattle.value_writes.specs.declared.Width.the-variants.{W8, W16, W32, W64}
 use Rattle.value_writes.specs.declared.Integer.the-variants.{Unsigned, Signed}
 use Rattle.value_writes.specs.declared.PVariant.the-variants.{Int, Char, Str, Ascii, Repeated}
-use Rattle.writer_backend.specs.Pieces.{placeOf}
-use Rattle.value_writes.specs.Values.{bitsOf, valueOf}
-use Rattle.encoded_call.specs.declared.Op.{Op}
-use Rattle.encoded_call.specs.declared.Op.the-variants.{Open, Place, Finish, Sub, EndSub, Value, Nothing}
+use Rattle.value_writes.specs.Values.{bitsOf}
+use Rattle.formatter.specs.declared.dispatch.Op.{Op}
+use Rattle.formatter.specs.declared.dispatch.Op.the-variants.{Open, Place, Finish, Sub, EndSub, Value, Nothing}
+use Rattle.formatter.specs.Calls.{callOf}
 
 -- the width that a number is: 8, 16, 32 or 64 bits
 abbrev pub widthAt : ℕ → Width
@@ -84,16 +81,6 @@ opAt o a b =
     (cond (eqb o 9) EndSub
     (valueAt o a b))))))))))
 
--- with its text; what is no call is none
-abbrev pub callOf : Op → List ℕ → Option Call
-callOf (Open k) s = some (opens k s)
-callOf (Place p) s = some (place (placeOf p s))
-callOf Finish s = some finish
-callOf (Sub f) s = some (sub f)
-callOf EndSub s = some endsub
-callOf (Value v) s = some (value (valueOf v s))
-callOf Nothing s = none
-
 -- the text is the n bytes of the pool t from i on; where the pool does not have them, it is no call
 unfoldable pub callAt : ℕ → ℕ → ℕ → ℕ → ℕ → List ℕ → Option Call
 callAt o i n a b t = cond (leb i (length t)) (cond (leb n (length t - i)) (callOf (opAt o a b) (take n (drop i t))) none) none
@@ -106,8 +93,3 @@ decode (o ∷ i ∷ []) t = []
 decode (o ∷ i ∷ n ∷ []) t = []
 decode (o ∷ i ∷ n ∷ a ∷ []) t = []
 decode (o ∷ i ∷ n ∷ a ∷ b ∷ rest) t = callAt o i n a b t ∷ decode rest t
-
--- Document 01, 'The answer to a call', order: 9 before all; docs/DECISIONS.md, 'The formatter': what is no call meets 8 and changes nothing
-abbrev pub stepOr : State → Option Call → Out
-stepOr F (some c) = step F c
-stepOr F none = guard (beyond (F .output .mode) (F .output .bytes)) F (record { answer = numberOf WrongCall; state = F })

@@ -1,23 +1,18 @@
 // A call of a run as five numbers over a pool of texts: which call, where its text starts, how long
 // it is, and two numbers.
 ghost use mathlib.Core.Path.{_≡_};
-ghost use mathlib.Core.List.{List};
-ghost use mathlib.Core.Option.{none};
-ghost use Prim.Native.Nat.{ℕ, _^_, _<_};
+ghost use Prim.Native.Nat.{_^_, _<_};
 ghost use lib.ListN.{getD};
+ghost use Rattle.formatter.specs.Calls.{stepOr};
 ghost use Rattle.formatter.specs.View.{view, viewOut};
 ghost use Rattle.value_writes.specs.Values.{bitsOf};
-ghost use Rattle.encoded_call.specs.Encoding.{valueAt, opAt, callOf, callAt, widthAt, signedAt, unsignedAt, integerAt, charAt, repeatedAt, stepOr};
-use agreement::Kind;
+ghost use Rattle.encoded_call.specs.Encoding.{valueAt, opAt, callAt, widthAt, signedAt, unsignedAt, integerAt, charAt, repeatedAt};
+use calls::Kind;
 use formatter::Head;
 use formatter::HeadStep;
-use formatter::endsub_at;
-use formatter::finish_at;
-use formatter::open_at;
-use formatter::place_at;
-use formatter::sub_at;
-use formatter::value_at;
-use formatting::FormattingFlags;
+use formatter::Op;
+use formatter::call;
+use formatter::no_call;
 use formatting::flags_of;
 use utils::Range;
 use value_writes::Form;
@@ -26,18 +21,6 @@ use value_writes::PVariant;
 use value_writes::Width;
 use value_writes::greatest;
 use writer_backend::PlaceKind;
-use writer_backend::past;
-
-// What a call's first word asks for.
-pub enum Op {
-    Open(Kind),
-    Place(PlaceKind),
-    Finish,
-    Sub(FormattingFlags),
-    EndSub,
-    Value(PVariant),
-    Nothing,
-}
 
 fn width_at(n: u64) -> Width
     ensures { λ r. ⌜ r ≡ widthAt n ⌝ }
@@ -192,36 +175,6 @@ pub fn op_at(o: u64, a: u64, b: u64) -> Op
         return Op::EndSub;
     }
     value_op(o, a, b)
-}
-
-// What is no call: 8, after 9.
-fn no_call(h: Head, buf: &[u8]) -> HeadStep
-    ensures { λ r. ⌜ ((s : List ℕ) → viewOut r s (now (buf .entry)) ≡ stepOr (view h s (now (buf .entry))) none) ⌝ }
-{
-    let mode = h.mode;
-    let over = past(mode, buf);
-    if over != 0 {
-        return HeadStep {
-            answer: over,
-            head: h,
-        };
-    }
-    HeadStep { answer: 8, head: h }
-}
-
-// One call. There is one call site for each function: the compiler then makes one loop of them all.
-pub fn call(h: Head, stack: &mut [u32; 64], buf: &mut [u8], op: Op, s: &[u8]) -> HeadStep
-    ensures { λ r. ⌜ viewOut r (now (stack .exit)) (now (buf .exit)) ≡ stepOr (view h (now (stack .entry)) (now (buf .entry))) (callOf op (now (s .entry))) ⌝ }
-{
-    match op {
-        Op::Open(k) => open_at(h, stack, buf, k, s),
-        Op::Place(p) => place_at(h, stack, buf, p, s),
-        Op::Finish => finish_at(h, stack, buf),
-        Op::Sub(f) => sub_at(h, stack, buf, f),
-        Op::EndSub => endsub_at(h, stack, buf),
-        Op::Value(v) => value_at(h, stack, buf, v, s),
-        Op::Nothing => no_call(h, buf),
-    }
 }
 
 // The call that five words are.

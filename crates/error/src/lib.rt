@@ -1,7 +1,7 @@
 // The answer to a call (fmt/error.rs). The Rust's Result<(), Error> becomes one enum, with the
 // cases that stand where the Rust has a type or a panic.
 ghost use mathlib.Core.Path.{_≡_};
-ghost use Rattle.error.specs.Answer.{numberOf};
+ghost use Rattle.error.specs.Answer.{numberOf, isDone};
 
 pub enum Answer {
     Done,
@@ -32,6 +32,24 @@ impl Answer {
             Answer::TooDeep => 7,
             Answer::WrongCall => 8,
             Answer::BadCursor => 9,
+        }
+    }
+
+    // Whether nothing was met.
+    pub fn is_done(self) -> bool
+        ensures { λ r. ⌜ r ≡ isDone self ⌝ }
+    {
+        match self {
+            Answer::Done => true,
+            Answer::NotEnoughSpace => false,
+            Answer::NotAscii => false,
+            Answer::NotOnCharBoundary => false,
+            Answer::NotUtf8 => false,
+            Answer::NotAChar => false,
+            Answer::CountTooLarge => false,
+            Answer::TooDeep => false,
+            Answer::WrongCall => false,
+            Answer::BadCursor => false,
         }
     }
 }

@@ -1,21 +1,18 @@
 -- What a builder holds is nothing, 1 or 6: a piece is refused with 1 or 6, or not at all.
 use mathlib.Core.Bool.{Bool, true, false, cond}
-use mathlib.Core.Path.{_≡_, refl, ap}
+use mathlib.Core.Path.{_≡_, refl}
 use mathlib.Core.List.{List, [], _∷_}
-use Prim.Native.Nat.{ℕ, zero, suc, _+_, _/_, _%_, _<_}
-use native.Mathlib.Omega.{arith}
+use Prim.Native.Nat.{ℕ, zero, suc, _+_, _/_}
 use lib.Dec.{ltb}
 use lib.ListN.{length}
 use Rattle.error.specs.declared.Answer.the-variants.{Done, NotEnoughSpace}
 use Rattle.str_writer.specs.declared.piece.Written.{Written}
 use Rattle.str_writer.specs.Write.{outcome, placed}
-use Rattle.agreement.specs.declared.Kind.{Kind}
-use Rattle.agreement.specs.declared.Entry.{Entry}
-use Rattle.agreement.specs.declared.Entry.the-variants.{Builder as builder, Outer as outer}
-use Rattle.agreement.specs.Model.{Mode, counting, writing, Output, PieceOutcome, to, most, wrote, putIn, put, hold, tries}
+use Rattle.calls.specs.Call.{hold}
+use Rattle.calls.specs.Model.{Mode, counting, writing, Output, PieceOutcome, to, most, wrote, putIn, put, tries}
 use Rattle.writer_backend.specs.Pieces.{tryAll}
 use Rattle.writer_backend.proofs.Sequence.{tried}
-use Rattle.formatter.specs.Entries.{heldOf, byTag, entryOf}
+use Rattle.formatter.specs.Entries.{heldOf, builderOf}
 
 -- a number that reads as the refusal that it is
 abbrev Refusal : ℕ → Type 0
@@ -58,14 +55,5 @@ held-refusal zero = refl
 held-refusal (suc zero) = refl
 held-refusal (suc (suc n)) = refl
 
-pub entry-refusal : (n : ℕ) (k : Kind) (has : Bool) (h : ℕ) → entryOf n ≡ builder k has h → Refusal h
-unfolding entryOf
-entry-refusal n k has h e = go (n % 2) e
-  where
-    held-in : Entry → ℕ
-    held-in (builder k has h) = h
-    held-in (outer f m) = 0
-
-    go : (t : ℕ) → byTag t n ≡ builder k has h → Refusal h
-    go zero q = let p : heldOf (n / 16) ≡ h = ap held-in q in rw (← p) (held-refusal (n / 16))
-    go (suc t) q = let p : 0 ≡ h = ap held-in q in rw (← p) refl
+pub entry-refusal : (n g : ℕ) → g ≡ builderOf n .held → Refusal g
+entry-refusal n g e = rw e (held-refusal (n / 16))

@@ -1,5 +1,6 @@
 -- Each outcome of a call on a head, a stack of numbers and the bytes is the model's step.
-use mathlib.Core.Bool.{Bool, true, false, cond}
+use mathlib.Core.Bool.{Bool, true, false, cond, _||_}
+use mathlib.Core.Option.{Option, none, some}
 use mathlib.Core.Path.{_≡_, refl, sym, ap, _∙_}
 use mathlib.Core.List.{List, [], _∷_}
 use Prim.Native.Nat.{ℕ, zero, suc, _+_, _-_, _≤_, _<_}
@@ -8,24 +9,24 @@ use native.Mathlib.Numerals.{add-one}
 use lib.Dec.{leb, ltb}
 use lib.ListN.{length, getD, set}
 use lib.Seq.{getD-set-same, getD-set-other}
-use borrow.Author.Tests.{leb-false, ltb-false, le-leb, lt-leb}
+use borrow.Author.Tests.{leb-false, ltb-false}
 use Rattle.formatting.specs.declared.flags.FormattingFlags.{FormattingFlags}
 use Rattle.formatting.specs.FlagsAsNumber.{flagsOf}
-use Rattle.str_writer.specs.Value.{Value}
-use Rattle.agreement.specs.declared.Kind.{Kind}
-use Rattle.agreement.specs.declared.Entry.{Entry}
-use Rattle.agreement.specs.declared.Entry.the-variants.{Builder as builder, Outer as outer}
-use Rattle.agreement.specs.Call.{Place, Call, opens, place, value, sub, endsub, finish, nameOf, valueFault, cutNumber, nameFault, openFault, placeFault}
-use Rattle.agreement.specs.Model.{PieceOutcome, putValue, hold, cutIn, tries, stops, namePieces, placePieces, closePieces, State, Out, guard, beyond, readyTop, finishAt, stepIn, step}
+use Rattle.str_writer.specs.Value.{Value, inputFault, cutFault}
+use Rattle.calls.specs.declared.Kind.{Kind}
+use Rattle.calls.specs.Call.{Place, Call, opens, place, value, sub, endsub, finish, openPieces, placePieces, closePieces, Innermost, ready, faultNumber, argumentFault, cutOf, cutNumber, callFault, hold}
+use Rattle.calls.specs.Model.{Mode, counting, writing, PieceOutcome, putValue, cutIn, tries, stops, Builder, Outer, Entry, builder, outer, hasPrinted, State, Out, inner, beyond, judged, faultOf, move, emit, emitClose, lowered, holds, settled, guard, step}
 use Rattle.writer_backend.specs.declared.pieces.Wrote.{Wrote}
 use Rattle.writer_backend.specs.Output.{modeOf, outputOf, putOut}
 use Rattle.writer_backend.specs.Pieces.{tryAll}
 use Rattle.value_writes.specs.Values.{unlessFault, valueOut}
 use Rattle.writer_backend.proofs.Sequence.{tried}
 use Rattle.formatter.specs.declared.head.Head.{Head}
-use Rattle.formatter.specs.Entries.{entryOf}
-use Rattle.formatter.specs.View.{depthOf, stackOf, marginOf, view, viewOut}
-use Rattle.formatter.proofs.Laws.{depth-in, margin-in}
+use Rattle.formatter.specs.Entries.{isBuilder, builderOf, outerOf, entryOf}
+use Rattle.formatter.specs.View.{stackOf, topOf, FaultAt, depthOf, marginOf, view, viewOut}
+use Rattle.formatter.specs.Calls.{faultOr, stepOr}
+use Rattle.formatter.proofs.Laws.{is-builder, is-outer, depth-in, margin-in, length-stack, top-ready}
+use Rattle.formatter.proofs.Judging.{place-wrong, finish-wrong, endsub-wrong}
 
 -- the stack of numbers after a store, and its innermost entry
 stack-set : (s : List ℕ) (d i v : ℕ) → d ≤ i → stackOf (set s i v) d ≡ stackOf s d
@@ -35,161 +36,201 @@ stack-set s (suc d) i v h = rw (getD-set-other s i d v 0 (omega arith), stack-se
 stack-push : (s : List ℕ) (d v : ℕ) → d < length s → stackOf (set s d v) (d + 1) ≡ entryOf v ∷ stackOf s d
 stack-push s d v h = rw (add-one, getD-set-same s d v 0 h, stack-set s d d v (omega arith))
 
-stack-top : (s : List ℕ) (d : ℕ) → (d ≡ 0 → ⊥) → stackOf s d ≡ entryOf (getD s (d - 1) 0) ∷ stackOf s (d - 1)
-stack-top s zero h = absurd (h refl)
-stack-top s (suc d) h = let e : suc d - 1 ≡ d = omega arith in rw e
+stack-replace : (s : List ℕ) (d v : ℕ) → 0 < d → d ≤ length s → stackOf (set s (d - 1) v) d ≡ entryOf v ∷ stackOf s (d - 1)
+stack-replace s zero v z h = absurd (omega arith)
+stack-replace s (suc d) v z h = let e : suc d - 1 ≡ d = omega arith in rw (e, getD-set-same s d v 0 (omega arith), stack-set s d d v (omega arith))
 
-pub length-stack : (s : List ℕ) (d : ℕ) → length (stackOf s d) ≡ d
-length-stack s zero = refl
-length-stack s (suc d) = ap suc (length-stack s d)
+-- a builder is innermost, or a sub-formatter
+pub some-builder : (s : List ℕ) (d n : ℕ) → n ≡ topOf s d → isBuilder n ≡ true → 0 < d
+some-builder s zero n e b = let f : false ≡ true = rw e at b in let z : _≡_ {A = ℕ} 0 1 = cc in absurd (omega arith)
+some-builder s (suc d) n e b = omega arith
 
--- whether a write or an opening suits, by the innermost entry
-pub ready-is : (s : List ℕ) (d : ℕ) (e x : Entry) → (d ≡ 0 → ⊥) → e ≡ entryOf (getD s (d - 1) 0) → e ≡ x → readyTop (x ∷ []) ≡ readyTop (stackOf s d)
-ready-is s d e x z p q = rw (stack-top s d z, ← p, q) (go x)
-  where
-    go : (y : Entry) → readyTop (y ∷ []) ≡ readyTop (y ∷ stackOf s (d - 1))
-    go (builder k has h) = refl
-    go (outer f m) = refl
+builder-top : (s : List ℕ) (d n : ℕ) → n ≡ topOf s d → isBuilder n ≡ true → stackOf s d ≡ builder (builderOf n) ∷ stackOf s (d - 1)
+builder-top s zero n e b = absurd (omega (arith, some-builder s 0 n e b))
+builder-top s (suc d) n e b = let q : suc d - 1 ≡ d = omega arith in rw (q, ← e, is-builder n b)
 
--- what an opening that meets nothing shows
-pub open-room : (s : List ℕ) (d m : ℕ) (k : Kind) (name : List ℕ) (n : ℕ) → n ≡ openFault (readyTop (stackOf s d)) d m (nameOf k name) → n ≡ 0 → (d < 64) × (m ≤ 65531)
-open-room s d m k name n e z = go (readyTop (stackOf s d)) (leb 64 d) refl (ltb 65531 m) refl (sym e ∙ z)
-  where
-    go : (t x : Bool) → leb 64 d ≡ x → (y : Bool) → ltb 65531 m ≡ y → _≡_ {A = ℕ} (cond t (cond x 7 (cond y 7 (nameFault (nameOf k name)))) 8) 0 → (d < 64) × (m ≤ 65531)
-    go true false p false q z = (leb-false 64 d p, ltb-false 65531 m q)
-    go true false p true q z = absurd (omega arith)
-    go true true p y q z = absurd (omega arith)
-    go false x p y q z = absurd (omega arith)
+outer-top : (s : List ℕ) (d n : ℕ) → n ≡ topOf s d → 0 < d → isBuilder n ≡ false → stackOf s d ≡ outer (outerOf n) ∷ stackOf s (d - 1)
+outer-top s zero n e z b = absurd (omega arith)
+outer-top s (suc d) n e z b = let q : suc d - 1 ≡ d = omega arith in rw (q, ← e, is-outer n b)
+
+-- what a judgement of 0 shows
+module _ (s : List ℕ) (n d m r : ℕ) (e : n ≡ topOf s d) (q : r ≡ 0) where
+  not-8 : (c : Call) → FaultAt 8 n d m c → FaultAt r n d m c → ⊥
+  not-8 c w f = let z : _≡_ {A = ℕ} 0 8 = sym q ∙ f s e ∙ sym (w s e) in omega arith
+
+  pub place-builder : (x : Place) → FaultAt r n d m (place x) → isBuilder n ≡ true
+  place-builder x f = go (isBuilder n) refl
+    where
+      go : (t : Bool) → isBuilder n ≡ t → isBuilder n ≡ true
+      go true p = p
+      go false p = absurd (not-8 (place x) (place-wrong n d m false (sym p) x refl) f)
+
+  pub finish-builder : FaultAt r n d m finish → isBuilder n ≡ true
+  finish-builder f = go (isBuilder n) refl
+    where
+      go : (t : Bool) → isBuilder n ≡ t → isBuilder n ≡ true
+      go true p = p
+      go false p = absurd (not-8 finish (finish-wrong n d m false (sym p) refl) f)
+
+  pub endsub-outer : FaultAt r n d m endsub → isBuilder n ≡ false
+  endsub-outer f = go (isBuilder n) refl
+    where
+      go : (t : Bool) → isBuilder n ≡ t → isBuilder n ≡ false
+      go true p = absurd (not-8 endsub (endsub-wrong n d m true (sym p) refl) f)
+      go false p = p
+
+  pub endsub-some : FaultAt r n d m endsub → 0 < d
+  endsub-some f = go d refl
+    where
+      go : (x : ℕ) → d ≡ x → 0 < d
+      go zero p = let z : _≡_ {A = ℕ} 0 8 = sym q ∙ f s e ∙ rw p in absurd (omega arith)
+      go (suc x) p = rw p (omega arith)
+
+  pub open-room : (k : Kind) (name : List ℕ) → FaultAt r n d m (opens k name) → (d < 64) × (m ≤ 65531)
+  open-room k name f = go (ready (inner (stackOf s d))) (leb 64 d) refl (ltb 65531 m) refl (sym (f s e) ∙ q)
+    where
+      go : (t x : Bool) → leb 64 d ≡ x → (y : Bool) → ltb 65531 m ≡ y → _≡_ {A = ℕ} (cond t (cond (x || y) 7 (faultNumber (argumentFault (opens k name)))) 8) 0 → (d < 64) × (m ≤ 65531)
+      go true false p false w z = (leb-false 64 d p, ltb-false 65531 m w)
+      go true false p true w z = absurd (omega arith)
+      go true true p y w z = absurd (omega arith)
+      go false x p y w z = absurd (omega arith)
+
+  pub sub-room : (f : FormattingFlags) → FaultAt r n d m (sub f) → d < 64
+  sub-room g f = go (ready (inner (stackOf s d))) (leb 64 d) refl (sym (f s e) ∙ q)
+    where
+      go : (t x : Bool) → leb 64 d ≡ x → _≡_ {A = ℕ} (cond t (cond x 7 0) 8) 0 → d < 64
+      go true false p z = leb-false 64 d p
+      go true true p z = absurd (omega arith)
+      go false x p z = absurd (omega arith)
 
 guard-on : (a : ℕ) (F : State) (o : Out) → (a ≡ 0 → ⊥) → record { answer = a; state = F } ≡ guard a F o
 guard-on zero F o q = absurd (q refl)
 guard-on (suc a) F o q = refl
 
+hold-on : (a x : ℕ) → (a ≡ 0 → ⊥) → hold a x ≡ a
+hold-on zero x q = absurd (q refl)
+hold-on (suc a) x q = refl
+
+-- what cuts nothing meets what it is judged by
+hold-uncut : (n : ℕ) (m : Mode) → hold n (cutIn m 0) ≡ n
+hold-uncut zero (counting t) = refl
+hold-uncut zero (writing p) = refl
+hold-uncut (suc n) m = refl
+
 module _ (h : Head) (s b : List ℕ) (o : ℕ) (eo : o ≡ beyond (modeOf (h .mode)) b) where
   -- the cursor is past the bytes
   pub past-end : (c : Call) → (o ≡ 0 → ⊥) → viewOut (record { answer = o; head = h }) s b ≡ step (view h s b) c
-  past-end c q = rw (← eo) (guard-on o (view h s b) (stepIn (view h s b) c) q)
+  past-end c q = rw (← eo, hold-on o _ q) (guard-on o (view h s b) _ q)
 
-  module _ (qo : o ≡ 0) where
-    inner : (c : Call) (r : Out) → r ≡ stepIn (view h s b) c → r ≡ step (view h s b) c
-    inner c r e = e ∙ rw (← eo, qo)
+  pub past-none : (o ≡ 0 → ⊥) → viewOut (record { answer = o; head = h }) s b ≡ stepOr (view h s b) none
+  past-none q = rw (← eo, hold-on o _ q)
 
-    module _ (d : ℕ) (ed : d ≡ depthOf (h .depth)) (hd : d ≤ 64) where
-      -- nothing open
-      pub place-none : (x : Place) → d ≡ 0 → viewOut (record { answer = 8; head = h }) s b ≡ step (view h s b) (place x)
-      place-none x z = inner (place x) _ (rw (← ed, z))
+  pub past-fault : (c : Option Call) → (o ≡ 0 → ⊥) → o ≡ faultOr (view h s b) c
+  past-fault none q = rw (← eo, hold-on o _ q)
+  past-fault (some c) q = rw (← eo, hold-on o _ q)
 
-      pub finish-none : d ≡ 0 → viewOut (record { answer = 8; head = h }) s b ≡ step (view h s b) finish
-      finish-none z = inner finish _ (rw (← ed, z))
+  pub none-fault : o ≡ 0 → 8 ≡ faultOr (view h s b) none
+  none-fault q = rw (← eo, q)
 
-      pub endsub-none : d ≡ 0 → viewOut (record { answer = 8; head = h }) s b ≡ step (view h s b) endsub
-      endsub-none z = inner endsub _ (rw (← ed, z))
+  pub none-wrong : o ≡ 0 → viewOut (record { answer = 8; head = h }) s b ≡ stepOr (view h s b) none
+  none-wrong q = rw (← eo, q)
 
-      -- something open
-      module _ (z : d ≡ 0 → ⊥) (e : Entry) (ee : e ≡ entryOf (getD s (d - 1) 0)) where
-        top : (x : Entry) → e ≡ x → stackOf s (depthOf (h .depth)) ≡ x ∷ stackOf s (d - 1)
-        top x q = rw (← ed, stack-top s d z, ← ee, q)
+  module _ (qo : o ≡ 0) (d : ℕ) (ed : d ≡ depthOf (h .depth)) (hd : d ≤ 64) (n : ℕ) (en : n ≡ topOf s d) where
+    stack-is : stackOf s (depthOf (h .depth)) ≡ stackOf s d
+    stack-is = rw (← ed)
 
-        below : stackOf s (depthOf (d - 1)) ≡ stackOf s (d - 1)
-        below = rw (← depth-in (d - 1) (omega arith))
+    -- a call that cuts nothing meets what it is judged by
+    module _ (m : ℕ) (em : m ≡ marginOf (h .margin)) (c : Call) (uncut : cutOf c ≡ none) (r : ℕ) (er : FaultAt r n d m c) where
+      pub met : r ≡ faultOf (view h s b) c
+      met = rw (← eo, qo, stack-is, length-stack s d, ← em, ← er s en, uncut) (sym (hold-uncut r (modeOf (h .mode))))
 
-        module _ (f : FormattingFlags) (m : ℕ) (q : e ≡ outer f m) where
-          pub place-outer : (x : Place) → viewOut (record { answer = 8; head = h }) s b ≡ step (view h s b) (place x)
-          place-outer x = inner (place x) _ (rw (top (outer f m) q))
+      pub refuses : (r ≡ 0 → ⊥) → viewOut (record { answer = r; head = h }) s b ≡ step (view h s b) c
+      refuses q = rw (← met) (guard-on r (view h s b) _ q)
 
-          pub finish-outer : viewOut (record { answer = 8; head = h }) s b ≡ step (view h s b) finish
-          finish-outer = inner finish _ (rw (top (outer f m) q))
+      does : r ≡ 0 → (y : Out) → y ≡ settled (holds c) (move (view h s b) c) (emit (view h s b) c) → y ≡ step (view h s b) c
+      does q y e = e ∙ rw (← met, q)
 
-          pub endsub-done : m < 65536 → (n : ℕ) → flagsOf n ≡ f → viewOut (record { answer = 0; head = record { mode = h .mode; flags = n; margin = m; depth = d - 1 } }) s b ≡ step (view h s b) endsub
-          endsub-done hm n en = inner endsub _ (rw (top (outer f m) q, below, margin-in m hm, en))
+    pub value-fault : (v : Value) (r : ℕ) → r ≡ hold (callFault (inner (stackOf s d)) d (marginOf (h .margin)) (value v)) (cutIn (modeOf (h .mode)) (cutNumber (value v))) → r ≡ faultOf (view h s b) (value v)
+    value-fault v r e = rw (← eo, qo, stack-is) e
 
-        module _ (k : Kind) (has : Bool) (g : ℕ) (q : e ≡ builder k has g) where
-          pub endsub-builder : viewOut (record { answer = 8; head = h }) s b ≡ step (view h s b) endsub
-          endsub-builder = inner endsub _ (rw (top (builder k has g) q))
+    below : stackOf s (depthOf (d - 1)) ≡ stackOf s (d - 1)
+    below = rw (← depth-in (d - 1) (omega arith))
 
-          pub finish-held : (g ≡ 0 → ⊥) → viewOut (record { answer = g; head = record { mode = h .mode; flags = h .flags; margin = h .margin; depth = d - 1 } }) s b ≡ step (view h s b) finish
-          finish-held n = inner finish _ (rw (top (builder k has g) q, below) (go g n))
-            where
-              go : (y : ℕ) → (y ≡ 0 → ⊥) → record { answer = y; state = record { output = outputOf (h .mode) b; flags = flagsOf (h .flags); margin = marginOf (h .margin); stack = stackOf s (d - 1) } }
-                  ≡ finishAt (record { output = outputOf (h .mode) b; flags = flagsOf (h .flags); margin = marginOf (h .margin); stack = builder k has g ∷ stackOf s (d - 1) }) (builder k has y ∷ stackOf s (d - 1))
-              go zero w = absurd (w refl)
-              go (suc y) w = refl
+    module _ (m : ℕ) (em : m ≡ marginOf (h .margin)) (r : ℕ) (q : r ≡ 0) where
+      -- one entry more
+      pushed : (v : ℕ) (x : Entry) → length s ≡ 64 → d < 64 → entryOf v ≡ x → stackOf (set s d v) (depthOf (d + 1)) ≡ x ∷ stackOf s d
+      pushed v x l hl ev = rw (← depth-in (d + 1) (omega arith), stack-push s d v (omega arith), ev)
 
-          pub finish-closed : g ≡ 0 → (w : Wrote) (b' : List ℕ) (f : FormattingFlags) → f ≡ flagsOf (h .flags) → (m : ℕ) → m ≡ marginOf (h .margin) - 4
-              → putOut w b' ≡ stops (outputOf (h .mode) b) (closePieces k has (f .«is_alternate») m)
-              → viewOut (record { answer = w .answer; head = record { mode = w .mode; flags = h .flags; margin = m; depth = d - 1 } }) s b' ≡ step (view h s b) finish
-          finish-closed n w b' f ef m em ew =
-              inner finish _ (rw (top (builder k has g) q, below, n, ← em, margin-in m (omega arith))
-              (ap (λ (p : PieceOutcome). record { answer = p .answer; state = record { output = p .output; flags = flagsOf (h .flags); margin = m; stack = stackOf s (d - 1) } }) (rw ef at ew)))
+      pub open-done : (k : Kind) (name : List ℕ) → FaultAt r n d m (opens k name) → length s ≡ 64 → (w : Wrote) (b' : List ℕ) (v : ℕ)
+          → putOut w b' ≡ tries (outputOf (h .mode) b) (openPieces k name)
+          → entryOf v ≡ builder (record { kind = k; hasField = false; held = w .answer })
+          → viewOut (record { answer = 0; head = record { mode = w .mode; flags = h .flags; margin = m + 4; depth = d + 1 } }) (set s d v) b' ≡ step (view h s b) (opens k name)
+      open-done k name er l w b' v ew ev =
+          let room = open-room s n d m r en q k name er in
+          does m em (opens k name) refl r er q _ (rw (pushed v (builder (record { kind = k; hasField = false; held = w .answer })) l (room .0) ev, stack-is, margin-in (m + 4) (omega (arith, room .1)), ← em)
+          (ap (λ (y : PieceOutcome). record { answer = 0; state = record { output = y .output; flags = flagsOf (h .flags); margin = m + 4; stack = builder (record { kind = k; hasField = false; held = y .answer }) ∷ stackOf s d } }) ew))
 
-          module _ (x : Place) (n : ℕ) (en : n ≡ placeFault x k) where
-            pub place-refused : (n ≡ 0 → ⊥) → viewOut (record { answer = n; head = h }) s b ≡ step (view h s b) (place x)
-            place-refused p = inner (place x) _ (rw (top (builder k has g) q, ← en) (guard-on n _ _ p))
+      pub sub-done : (f : FormattingFlags) → FaultAt r n d m (sub f) → length s ≡ 64 → (v : ℕ) → entryOf v ≡ outer (record { flags = flagsOf (h .flags); margin = m }) → (x : ℕ) → flagsOf x ≡ f
+          → viewOut (record { answer = 0; head = record { mode = h .mode; flags = x; margin = h .margin; depth = d + 1 } }) (set s d v) b ≡ step (view h s b) (sub f)
+      sub-done f er l v ev x ex =
+          does m em (sub f) refl r er q _ (rw (pushed v (outer (record { flags = flagsOf (h .flags); margin = m })) l (sub-room s n d m r en q f er) ev, stack-is, ex, ← em))
 
-            pub place-done : n ≡ 0 → length s ≡ 64 → (w : Wrote) (b' : List ℕ) (v : ℕ) (f : FormattingFlags) → f ≡ flagsOf (h .flags) → (m : ℕ) → m ≡ marginOf (h .margin)
-                → putOut w b' ≡ tryAll (record { answer = g; output = outputOf (h .mode) b }) (placePieces k has (f .«is_alternate») m x)
-                → entryOf v ≡ builder k true (w .answer)
-                → viewOut (record { answer = 0; head = record { mode = w .mode; flags = h .flags; margin = h .margin; depth = d } }) (set s (d - 1) v) b' ≡ step (view h s b) (place x)
-            place-done p l w b' v f ef m em ew ev =
-                let t : stackOf (set s (d - 1) v) (depthOf d) ≡ builder k true (w .answer) ∷ stackOf s (d - 1) =
-                rw (← depth-in d hd, stack-top (set s (d - 1) v) d z, getD-set-same s (d - 1) v 0 (omega arith), ev, stack-set s (d - 1) (d - 1) v (omega arith)) in
-                inner (place x) _ (rw (top (builder k has g) q, ← en, p, t, ← em)
-                (ap (λ (y : PieceOutcome). record { answer = 0; state = record { output = y .output; flags = flagsOf (h .flags); margin = m; stack = builder k true (y .answer) ∷ stackOf s (d - 1) } })
-                (rw ef at ew ∙ tried g (outputOf (h .mode) b) (placePieces k has (flagsOf (h .flags) .«is_alternate») m x))))
+      pub place-done : (x : Place) → FaultAt r n d m (place x) → length s ≡ 64 → (k : Kind) → k ≡ builderOf n .kind → (g : ℕ) → g ≡ builderOf n .held → (p : Bool) → p ≡ hasPrinted (builderOf n)
+          → (f : FormattingFlags) → f ≡ flagsOf (h .flags) → (w : Wrote) (b' : List ℕ) (v : ℕ)
+          → putOut w b' ≡ tryAll (record { answer = g; output = outputOf (h .mode) b }) (placePieces k p (f .«is_alternate») m x)
+          → entryOf v ≡ builder (record { kind = k; hasField = true; held = w .answer })
+          → viewOut (record { answer = 0; head = record { mode = w .mode; flags = h .flags; margin = h .margin; depth = h .depth } }) (set s (d - 1) v) b' ≡ step (view h s b) (place x)
+      place-done x er l k ek g eg p ep f ef w b' v ew ev =
+          let t = place-builder s n d m r en q x er in
+          let z = some-builder s d n en t in
+          does m em (place x) refl r er q _ (rw (← ed, stack-replace s d v z (omega arith), ev, builder-top s d n en t, ← em, ← ek, ← eg, ← ep)
+          (ap (λ (y : PieceOutcome). record { answer = 0; state = record { output = y .output; flags = flagsOf (h .flags); margin = m; stack = builder (record { kind = k; hasField = true; held = y .answer }) ∷ stackOf s (d - 1) } })
+          (rw ef at ew ∙ tried g (outputOf (h .mode) b) (placePieces k p (flagsOf (h .flags) .«is_alternate») m x))))
 
-      -- an entry more
-      pushed : (v : ℕ) (x : Entry) → length s ≡ 64 → d < 64 → entryOf v ≡ x → stackOf (set s d v) (depthOf (d + 1)) ≡ x ∷ stackOf s (depthOf (h .depth))
-      pushed v x l hl ev = rw (← depth-in (d + 1) (omega arith), stack-push s d v (omega arith), ev, ← ed)
+      pub endsub-done : FaultAt r n d m endsub → (f : FormattingFlags) → f ≡ outerOf n .flags → (y : ℕ) → y ≡ outerOf n .margin → y < 65536 → (x : ℕ) → flagsOf x ≡ f
+          → viewOut (record { answer = 0; head = record { mode = h .mode; flags = x; margin = y; depth = d - 1 } }) s b ≡ step (view h s b) endsub
+      endsub-done er f ef y ey hy x ex =
+          does m em endsub refl r er q _ (rw (below, stack-is, outer-top s d n en (endsub-some s n d m r en q er) (endsub-outer s n d m r en q er), margin-in y hy, ex, ← ey, ← ef))
 
-      module _ (k : Kind) (name : List ℕ) (m : ℕ) (em : m ≡ marginOf (h .margin)) (n : ℕ) (en : n ≡ openFault (readyTop (stackOf s d)) d m (nameOf k name)) where
-        fault : n ≡ openFault (readyTop (stackOf s (depthOf (h .depth)))) (length (stackOf s (depthOf (h .depth)))) (marginOf (h .margin)) (nameOf k name)
-        fault = rw (← ed, length-stack s d, ← em) en
+      module _ (er : FaultAt r n d m finish) (g : ℕ) (eg : g ≡ builderOf n .held) where
+        closing : stackOf s d ≡ builder (builderOf n) ∷ stackOf s (d - 1)
+        closing = builder-top s d n en (finish-builder s n d m r en q er)
 
-        pub open-refused : (n ≡ 0 → ⊥) → viewOut (record { answer = n; head = h }) s b ≡ step (view h s b) (opens k name)
-        open-refused p = inner (opens k name) _ (rw (← fault) (guard-on n _ _ p))
+        pub finish-held : (g ≡ 0 → ⊥) → viewOut (record { answer = g; head = record { mode = h .mode; flags = h .flags; margin = h .margin; depth = d - 1 } }) s b ≡ step (view h s b) finish
+        finish-held z = does m em finish refl r er q _ (rw (below, stack-is, closing, ← eg) (go g z))
+          where
+            go : (y : ℕ) → (y ≡ 0 → ⊥) → record { answer = y; state = record { output = outputOf (h .mode) b; flags = flagsOf (h .flags); margin = marginOf (h .margin); stack = stackOf s (d - 1) } }
+                ≡ settled false (record { flags = flagsOf (h .flags); margin = lowered y (marginOf (h .margin)); stack = stackOf s (d - 1) }) (emitClose y (outputOf (h .mode) b) (closePieces (builderOf n .kind) (hasPrinted (builderOf n)) (flagsOf (h .flags) .«is_alternate») (marginOf (h .margin) - 4)))
+            go zero w = absurd (w refl)
+            go (suc y) w = refl
 
-        pub open-done : n ≡ 0 → length s ≡ 64 → d < 64 → m ≤ 65531 → (w : Wrote) (b' : List ℕ) (v : ℕ)
-            → putOut w b' ≡ tries (outputOf (h .mode) b) (namePieces k name)
-            → entryOf v ≡ builder k false (w .answer)
-            → viewOut (record { answer = 0; head = record { mode = w .mode; flags = h .flags; margin = m + 4; depth = d + 1 } }) (set s d v) b' ≡ step (view h s b) (opens k name)
-        open-done p l hl hm w b' v ew ev =
-            inner (opens k name) _ (rw (← fault, p, pushed v (builder k false (w .answer)) l hl ev, margin-in (m + 4) (omega arith), ← em)
-            (ap (λ (y : PieceOutcome). record { answer = 0; state = record { output = y .output; flags = flagsOf (h .flags); margin = m + 4; stack = builder k false (y .answer) ∷ stackOf s (depthOf (h .depth)) } }) ew))
+        pub finish-closed : g ≡ 0 → (k : Kind) → k ≡ builderOf n .kind → (p : Bool) → p ≡ hasPrinted (builderOf n) → (f : FormattingFlags) → f ≡ flagsOf (h .flags) → (y : ℕ) → y ≡ m - 4 → (w : Wrote) (b' : List ℕ)
+            → putOut w b' ≡ stops (outputOf (h .mode) b) (closePieces k p (f .«is_alternate») y)
+            → viewOut (record { answer = w .answer; head = record { mode = w .mode; flags = h .flags; margin = y; depth = d - 1 } }) s b' ≡ step (view h s b) finish
+        finish-closed z k ek p ep f ef y ey w b' ew =
+            let e : builderOf n .held ≡ 0 = sym eg ∙ z in
+            does m em finish refl r er q _ (rw (below, stack-is, closing, e, ← ek, ← ep, ← em, ← ey, margin-in y (omega arith))
+            (ap (λ (t : PieceOutcome). record { answer = t .answer; state = record { output = t .output; flags = flagsOf (h .flags); margin = y; stack = stackOf s (d - 1) } }) (rw ef at ew)))
 
-      -- whether a write or an opening suits
-      module _ (r : Bool) (er : r ≡ readyTop (stackOf s d)) where
-        is-ready : r ≡ readyTop (stackOf s (depthOf (h .depth)))
-        is-ready = rw (← ed) er
+    -- a value, by whether it suits
+    module _ (t : Bool) (et : t ≡ ready (inner (entryOf n ∷ []))) (v : Value) where
+      suits-value : ready (inner (stackOf s (depthOf (h .depth)))) ≡ t
+      suits-value = rw stack-is (top-ready s d n en ∙ sym et)
 
-        deep : length (stackOf s (depthOf (h .depth))) ≡ d
-        deep = rw (← ed) (length-stack s d)
+      pub value-wrong : t ≡ false → viewOut (record { answer = 8; head = h }) s b ≡ step (view h s b) (value v)
+      value-wrong p = rw (← eo, qo, suits-value, p)
 
-        module _ (f : FormattingFlags) where
-          pub sub-wrong : r ≡ false → viewOut (record { answer = 8; head = h }) s b ≡ step (view h s b) (sub f)
-          sub-wrong p = inner (sub f) _ (rw (← is-ready, p))
+      -- a value that suits is what its piece answers
+      pub value-done : t ≡ true → (f : FormattingFlags) → f ≡ flagsOf (h .flags) → (w : Wrote) (b' : List ℕ) → putOut w b' ≡ valueOut (h .mode) b f v
+          → viewOut (record { answer = w .answer; head = record { mode = w .mode; flags = h .flags; margin = h .margin; depth = h .depth } }) s b' ≡ step (view h s b) (value v)
+      unfolding valueOut
+      value-done p f ef w b' ew =
+          rw (← eo, qo, suits-value, p)
+          (ap out (rw ef at ew ∙ rw (← eo, qo)) ∙ go (hold (faultNumber (inputFault v)) (cutIn (modeOf (h .mode)) (faultNumber (cutFault v)))) (putValue (outputOf (h .mode) b) (flagsOf (h .flags)) v))
+        where
+          out : PieceOutcome → Out
+          out y = record { answer = y .answer; state = record { output = y .output; flags = flagsOf (h .flags); margin = marginOf (h .margin); stack = stackOf s (depthOf (h .depth)) } }
 
-          pub sub-deep : r ≡ true → 64 ≤ d → viewOut (record { answer = 7; head = h }) s b ≡ step (view h s b) (sub f)
-          sub-deep p g = inner (sub f) _ (rw (← is-ready, p, deep, le-leb 64 d g))
-
-          pub sub-done : r ≡ true → length s ≡ 64 → d < 64 → (v : ℕ) → entryOf v ≡ outer (flagsOf (h .flags)) (marginOf (h .margin)) → (n : ℕ) → flagsOf n ≡ f
-              → viewOut (record { answer = 0; head = record { mode = h .mode; flags = n; margin = h .margin; depth = d + 1 } }) (set s d v) b ≡ step (view h s b) (sub f)
-          sub-done p l g v ev n en = inner (sub f) _ (rw (← is-ready, p, deep, lt-leb 64 d g, pushed v (outer (flagsOf (h .flags)) (marginOf (h .margin))) l g ev, en))
-
-        module _ (v : Value) where
-          pub value-wrong : r ≡ false → viewOut (record { answer = 8; head = h }) s b ≡ step (view h s b) (value v)
-          value-wrong p = inner (value v) _ (rw (← is-ready, p))
-
-          -- a value that suits is what its piece answers
-          pub value-done : r ≡ true → (w : Wrote) (b' : List ℕ) (f : FormattingFlags) → f ≡ flagsOf (h .flags) → putOut w b' ≡ valueOut (h .mode) b f v
-              → viewOut (record { answer = w .answer; head = record { mode = w .mode; flags = h .flags; margin = h .margin; depth = h .depth } }) s b' ≡ step (view h s b) (value v)
-          unfolding valueOut
-          value-done p w b' f ef ew =
-              inner (value v) _ (rw (← is-ready, p)
-              (ap out (rw ef at ew ∙ rw (← eo, qo)) ∙ go (hold (valueFault v) (cutIn (modeOf (h .mode)) (cutNumber v))) (putValue (outputOf (h .mode) b) (flagsOf (h .flags)) v)))
-            where
-              out : PieceOutcome → Out
-              out y = record { answer = y .answer; state = record { output = y .output; flags = flagsOf (h .flags); margin = marginOf (h .margin); stack = stackOf s (depthOf (h .depth)) } }
-
-              go : (n : ℕ) (y : PieceOutcome) → out (unlessFault n (outputOf (h .mode) b) y) ≡ guard n (view h s b) (out y)
-              go zero y = refl
-              go (suc n) y = refl
+          go : (n : ℕ) (y : PieceOutcome) → out (unlessFault n (outputOf (h .mode) b) y) ≡ guard n (view h s b) (out y)
+          go zero y = refl
+          go (suc n) y = refl

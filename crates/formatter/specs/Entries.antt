@@ -1,13 +1,13 @@
 -- Which open entry a number of the stack is. Every number is one (docs/DECISIONS.md, 'The formatter').
+use mathlib.Core.Bool.{Bool, cond}
 use Prim.Native.Nat.{ℕ, zero, suc, _/_, _%_}
 use lib.Dec.{eqb}
 use Rattle.error.specs.declared.Answer.the-variants.{Done, NotEnoughSpace, CountTooLarge}
 use Rattle.error.specs.Answer.{numberOf}
 use Rattle.formatting.specs.FlagsAsNumber.{flagsOf}
-use Rattle.agreement.specs.declared.Kind.{Kind}
-use Rattle.agreement.specs.declared.Kind.the-variants.{Struct, Tuple, List, Set}
-use Rattle.agreement.specs.declared.Entry.{Entry}
-use Rattle.agreement.specs.declared.Entry.the-variants.{Builder as builder, Outer as outer}
+use Rattle.calls.specs.declared.Kind.{Kind}
+use Rattle.calls.specs.declared.Kind.the-variants.{Struct, Tuple, List, Set}
+use Rattle.calls.specs.Model.{Builder, Outer, Entry, builder, outer}
 
 -- docs/DECISIONS.md, 'The formatter': the kind of a builder, by its number
 abbrev pub kindOf : ℕ → Kind
@@ -22,19 +22,18 @@ heldOf zero = numberOf Done
 heldOf (suc zero) = numberOf NotEnoughSpace
 heldOf (suc (suc n)) = numberOf CountTooLarge
 
--- docs/DECISIONS.md, 'The formatter': an even number is a builder: its kind, whether it has a field, the refusal that it holds
-abbrev pub builderOf : ℕ → Entry
-builderOf n = builder (kindOf (n / 2 % 4)) (eqb (n / 8 % 2) 1) (heldOf (n / 16))
+-- docs/DECISIONS.md, 'The formatter': an even number is a builder
+abbrev pub isBuilder : ℕ → Bool
+isBuilder n = eqb (n % 2) 0
+
+-- docs/DECISIONS.md, 'The formatter': its kind, whether it has a field, the refusal that it holds
+abbrev pub builderOf : ℕ → Builder
+builderOf n = record { kind = kindOf (n / 2 % 4); hasField = eqb (n / 8 % 2) 1; held = heldOf (n / 16) }
 
 -- docs/DECISIONS.md, 'The formatter': an odd number is a sub-formatter: the flags and the margin outside it; what stands above them says nothing
-abbrev pub outerOf : ℕ → Entry
-outerOf n = outer (flagsOf (n / 2 % 16)) (n / 32 % 65536)
-
--- docs/DECISIONS.md, 'The formatter': by the lowest bit
-abbrev pub byTag : ℕ → ℕ → Entry
-byTag zero n = builderOf n
-byTag (suc t) n = outerOf n
+abbrev pub outerOf : ℕ → Outer
+outerOf n = record { flags = flagsOf (n / 2 % 16); margin = n / 32 % 65536 }
 
 -- Document 01, 'Rust forms that cannot come along': in place of a builder that borrows, an open entry of the stack
 unfoldable pub entryOf : ℕ → Entry
-entryOf n = byTag (n % 2) n
+entryOf n = cond (isBuilder n) (builder (builderOf n)) (outer (outerOf n))

@@ -1,12 +1,13 @@
 -- The state of the model that a formatter and the lent bytes are. Every formatter is one (docs/DECISIONS.md, 'The formatter').
 use mathlib.Core.Bool.{cond}
+use mathlib.Core.Path.{_≡_}
 use mathlib.Core.List.{List, [], _∷_}
 use Prim.Native.Nat.{ℕ, zero, suc, _%_}
 use lib.Dec.{leb}
 use lib.ListN.{getD}
 use Rattle.formatting.specs.FlagsAsNumber.{flagsOf}
-use Rattle.agreement.specs.declared.Entry.{Entry}
-use Rattle.agreement.specs.Model.{State, Out}
+use Rattle.calls.specs.Call.{Call, callFault}
+use Rattle.calls.specs.Model.{Entry, State, Out, inner}
 use Rattle.writer_backend.specs.Output.{outputOf}
 use Rattle.formatter.specs.Entries.{entryOf}
 use Rattle.formatter.specs.declared.head.Head.{Head}
@@ -16,6 +17,15 @@ use Rattle.formatter.specs.declared.head.HeadStep.{HeadStep}
 abbrev pub stackOf : List ℕ → ℕ → List Entry
 stackOf s zero = []
 stackOf s (suc d) = entryOf (getD s d 0) ∷ stackOf s d
+
+-- docs/DECISIONS.md, 'The formatter': the number of the innermost of d entries; 1, which is no builder, where there is none
+abbrev pub topOf : List ℕ → ℕ → ℕ
+topOf s zero = 1
+topOf s (suc d) = getD s d 0
+
+-- Document 01, 'The answer to a call': r is what a call meets where n is the number of the innermost of d entries, and the margin is m
+abbrev pub FaultAt : ℕ → ℕ → ℕ → ℕ → Call → Type 0
+FaultAt r n d m c = (s : List ℕ) → n ≡ topOf s d → r ≡ callFault (inner (stackOf s d)) d m c
 
 -- Document 01, 'Rust forms that cannot come along': at most 64 are open; docs/DECISIONS.md, 'The formatter': a depth above that reads as 64
 unfoldable pub depthOf : ℕ → ℕ

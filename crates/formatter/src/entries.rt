@@ -1,10 +1,11 @@
-// An open entry as a number of the stack.
+// An open entry as a number of the stack, its parts by their names.
 ghost use mathlib.Core.Path.{_≡_};
+ghost use mathlib.Core.List.{[], _∷_};
 ghost use Prim.Native.Nat.{_<_};
-ghost use Rattle.agreement.specs.declared.Entry.the-variants.{Builder as builder, Outer as outer};
-ghost use Rattle.formatter.specs.Entries.{entryOf, heldOf, kindOf};
-use agreement::Entry;
-use agreement::Kind;
+ghost use Rattle.calls.specs.Call.{ready};
+ghost use Rattle.calls.specs.Model.{hasPrinted, builder, outer, inner};
+ghost use Rattle.formatter.specs.Entries.{entryOf, isBuilder, builderOf, outerOf, heldOf, kindOf};
+use calls::Kind;
 use formatting::FormattingFlags;
 use formatting::bit;
 use formatting::flags_number;
@@ -46,32 +47,74 @@ fn held_of(n: u32) -> u8
     6
 }
 
-// The entry that a number is.
-pub(crate) fn unpack(n: u32) -> Entry
-    ensures { λ r. ⌜ r ≡ entryOf n ⌝ }
+// Whether an entry is a builder, and not a sub-formatter.
+pub(crate) fn is_builder(e: u32) -> bool
+    ensures { λ r. ⌜ r ≡ isBuilder e ⌝ }
 {
-    if n % 2 == 0 {
-        return Entry::Builder(kind_of(n / 2 % 4), n / 8 % 2 == 1, held_of(n / 16));
+    e % 2 == 0
+}
+
+// The kind of a builder.
+pub(crate) fn kind_in(e: u32) -> Kind
+    ensures { λ r. ⌜ r ≡ builderOf e .kind ⌝ }
+{
+    kind_of(e / 2 % 4)
+}
+
+// Whether a builder has printed a field.
+pub(crate) fn has_printed(e: u32) -> bool
+    ensures { λ r. ⌜ r ≡ hasPrinted (builderOf e) ⌝ }
+{
+    e / 8 % 2 == 1
+}
+
+// Whether an entry is ready for a write or an opening: no builder without a field.
+pub(crate) fn is_ready(e: u32) -> bool
+    ensures { λ r. ⌜ r ≡ ready (inner (entryOf e ∷ [])) ⌝ }
+{
+    if is_builder(e) {
+        return e / 8 % 2 == 1;
     }
-    let flags = n / 2 % 16;
-    let margin = n / 32 % 65536;
-    Entry::Outer(flags_of(flags as u64), margin as u16)
+    true
+}
+
+// The refusal that a builder holds.
+pub(crate) fn held_in(e: u32) -> u8
+    ensures { λ r. ⌜ r ≡ builderOf e .held ⌝ }
+{
+    held_of(e / 16)
+}
+
+// The flags outside a sub-formatter.
+pub(crate) fn flags_in(e: u32) -> FormattingFlags
+    ensures { λ r. ⌜ r ≡ outerOf e .flags ⌝ }
+{
+    let flags = e / 2 % 16;
+    flags_of(flags as u64)
+}
+
+// The margin outside a sub-formatter.
+pub(crate) fn margin_in(e: u32) -> u16
+    ensures { λ r. ⌜ r ≡ outerOf e .margin ⌝ }
+{
+    let margin = e / 32 % 65536;
+    margin as u16
 }
 
 // A number that is a builder.
-pub(crate) fn pack_builder(k: Kind, has: bool, held: u8) -> u32
+pub(crate) fn pack_builder(kind: Kind, has_field: bool, held: u8) -> u32
     requires { ⌜ heldOf held ≡ held ⌝ }
-    ensures { λ r. ⌜ entryOf r ≡ builder k has held ⌝ }
+    ensures { λ r. ⌜ entryOf r ≡ builder (record { kind = kind; hasField = «has_field»; held = held }) ⌝ }
 {
-    let a = kind_number(k);
-    let b = bit(has) as u32;
+    let a = kind_number(kind);
+    let b = bit(has_field) as u32;
     let h = held as u32;
     2 * a + 8 * b + 16 * h
 }
 
 // A number that is a sub-formatter.
 pub(crate) fn pack_outer(flags: FormattingFlags, margin: u16) -> u32
-    ensures { λ r. ⌜ entryOf r ≡ outer flags margin ⌝ }
+    ensures { λ r. ⌜ entryOf r ≡ outer (record { flags = flags; margin = margin }) ⌝ }
 {
     let a = flags_number(flags) as u32;
     let w = margin as u32;

@@ -6,8 +6,8 @@ use lib.Dec.{ltb}
 use lib.ListN.{length}
 use Rattle.error.specs.declared.Answer.the-variants.{Done, BadCursor}
 use Rattle.error.specs.Answer.{numberOf}
-use Rattle.formatting.specs.declared.flags.FormattingFlags.{FormattingFlags}
-use Rattle.agreement.specs.Model.{State, Out, start, writing}
+use Rattle.calls.specs.declared.Settings.{Settings}
+use Rattle.calls.specs.Model.{State, Out, start, writing}
 use Rattle.formatter.specs.View.{view}
 use Rattle.formatter_by_value.specs.declared.Formatter.{Formatter}
 use Rattle.formatter_by_value.specs.declared.FormatterStep.{FormatterStep}
@@ -21,5 +21,5 @@ abbrev pub viewFOut : FormatterStep → List ℕ → Out
 viewFOut r b = record { answer = r .answer; state = viewF (r .fmt) b }
 
 -- Document 01, 'A nested record': a run starts fresh, cursor p over bytes of any content; 9 where the cursor exceeds the buffer's length
-abbrev pub begun : List ℕ → ℕ → FormattingFlags → Out
-begun b p f = record { answer = cond (ltb (length b) p) (numberOf BadCursor) (numberOf Done); state = start (writing p) b f }
+abbrev pub begun : List ℕ → ℕ → Settings → Out
+begun b p S = record { answer = cond (ltb (length b) p) (numberOf BadCursor) (numberOf Done); state = start (writing p) b S }

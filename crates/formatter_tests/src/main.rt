@@ -1,11 +1,11 @@
 // The methods of a formatter by value, in counting and in writing. A case is a line of standard
 // input: README.md has the form of the lines and what each prints.
-mod calls;
 mod integers;
+mod play;
 mod print;
 mod texts;
 
-use calls::play;
+use calls::Settings;
 use fields::Number;
 use fields::first_field;
 use fields::index_of;
@@ -13,7 +13,6 @@ use fields::later_fields;
 use fields::number;
 use formatter_by_value::Formatter;
 use formatter_by_value::FormatterStep;
-use formatting::FormattingFlags;
 use formatting::flags_of;
 use libc::STDIN_FILENO;
 use libc::STDOUT_FILENO;
@@ -22,6 +21,7 @@ use lines::MAX_LINE;
 use lines::Reader;
 use lines::next_line;
 use lines::part;
+use play::play;
 use print::put_bytes;
 use print::put_call;
 use str_writer::put;
@@ -32,7 +32,7 @@ use utils::slice_up_to_len;
 fn answer_calls(
     name: &[u8],
     calls: &[u8],
-    flags: FormattingFlags,
+    settings: Settings,
     buf: &mut [u8],
     at: usize,
     out: &mut [u8],
@@ -40,9 +40,9 @@ fn answer_calls(
     let mut four = [b'.'; 4];
     let mut counted = FormatterStep {
         answer: 0,
-        fmt: Formatter::counting(flags),
+        fmt: Formatter::counting(settings),
     };
-    let mut written = Formatter::writing(buf, at, flags);
+    let mut written = Formatter::writing(buf, at, settings);
     let mut end = put_call(out, 0, name, counted, written);
     let mut rest = calls;
     while 0 < rest.len() {
@@ -80,14 +80,10 @@ fn answer_line(head: &[u8], calls: &[u8], out: &mut [u8]) -> usize {
         return 0;
     }
     let buf = &mut dots[0..n];
-    answer_calls(
-        first_field(head),
-        calls,
-        flags_of(flags),
-        buf,
-        at as usize,
-        out,
-    )
+    let settings = Settings {
+        flags: flags_of(flags),
+    };
+    answer_calls(first_field(head), calls, settings, buf, at as usize, out)
 }
 
 // Lays what a line of another form prints.

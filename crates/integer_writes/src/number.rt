@@ -21,6 +21,7 @@ use pwrapper::binary_len_u64;
 use pwrapper::compute_display_len_u64;
 use pwrapper::hexadecimal_len_u64;
 use str_writer::Written;
+use str_writer::piece_fault;
 
 // Lays the decimal digits of n, the last right before end.
 fn lay_decimal(buf: &mut [u8], end: usize, n: u64)
@@ -106,18 +107,10 @@ pub fn decimal_len(is_negative: bool, n: u64) -> usize
 pub fn write_decimal(buf: &mut [u8], at: usize, is_negative: bool, n: u64) -> Written
     ensures { λ r. ⌜ outcome r (now (buf .exit)) ≡ putText (now (buf .entry)) at (cond «is_negative» (45 ∷ []) [] ++ decimal n) ⌝ }
 {
-    if buf.len() < at {
-        return Written {
-            at,
-            answer: Answer::BadCursor,
-        };
-    }
     let len = decimal_len(is_negative, n);
-    if buf.len() - at < len {
-        return Written {
-            at,
-            answer: Answer::NotEnoughSpace,
-        };
+    let fault = piece_fault(buf.len(), at, len);
+    if !fault.is_done() {
+        return Written { at, answer: fault };
     }
     let end = at + len;
     put_minus(buf, at, is_negative);
@@ -132,18 +125,10 @@ pub fn write_decimal(buf: &mut [u8], at: usize, is_negative: bool, n: u64) -> Wr
 fn write_hexadecimal(buf: &mut [u8], at: usize, n: u64, flags: FormattingFlags) -> Written
     ensures { λ r. ⌜ outcome r (now (buf .exit)) ≡ putText (now (buf .entry)) at (hexText flags n) ⌝ }
 {
-    if buf.len() < at {
-        return Written {
-            at,
-            answer: Answer::BadCursor,
-        };
-    }
     let hex_len = hexadecimal_len_u64(n, flags);
-    if buf.len() - at < hex_len {
-        return Written {
-            at,
-            answer: Answer::NotEnoughSpace,
-        };
+    let fault = piece_fault(buf.len(), at, hex_len);
+    if !fault.is_done() {
+        return Written { at, answer: fault };
     }
     let end = at + hex_len;
     let hex_fmt = flags.hex_fmt;
@@ -159,18 +144,10 @@ fn write_hexadecimal(buf: &mut [u8], at: usize, n: u64, flags: FormattingFlags) 
 fn write_binary(buf: &mut [u8], at: usize, n: u64, flags: FormattingFlags) -> Written
     ensures { λ r. ⌜ outcome r (now (buf .exit)) ≡ putText (now (buf .entry)) at (binText flags n) ⌝ }
 {
-    if buf.len() < at {
-        return Written {
-            at,
-            answer: Answer::BadCursor,
-        };
-    }
     let bin_len = binary_len_u64(n, flags);
-    if buf.len() - at < bin_len {
-        return Written {
-            at,
-            answer: Answer::NotEnoughSpace,
-        };
+    let fault = piece_fault(buf.len(), at, bin_len);
+    if !fault.is_done() {
+        return Written { at, answer: fault };
     }
     let end = at + bin_len;
     put_prefix(buf, at, flags.is_alternate, b'b');

@@ -12,9 +12,9 @@ use Rattle.formatting.specs.Flags.{defaultFlags, withNumFmt, withAlternate}
 use Rattle.formatting.specs.Escape.{quoted}
 use Rattle.utf8.specs.Utf8.{octets}
 use Rattle.str_writer.specs.Value.{integer, debug}
-use Rattle.agreement.specs.declared.Kind.the-variants.{Struct}
-use Rattle.agreement.specs.declared.Kind.the-variants as kind
-use Rattle.agreement.specs.Call.{Call, field, opens, place, value, finish}
+use Rattle.calls.specs.declared.Kind.the-variants.{Struct}
+use Rattle.calls.specs.declared.Kind.the-variants as kind
+use Rattle.calls.specs.Call.{Call, field, opens, place, value, finish}
 use Rattle.agreement.specs.Agreement.{definedText, written}
 use Rattle.pwrapper.specs.Number.{displayText, debugText}
 
@@ -63,9 +63,9 @@ pairs =
     -- byte 1 quoted `"\x01"`
     ∷ record { text = quoted (1 ∷ []); known = 34 ∷ 92 ∷ 120 ∷ 48 ∷ 49 ∷ 34 ∷ [] }
     -- empty list alternate `[]`
-    ∷ record { text = definedText (withAlternate defaultFlags true) emptyList; known = 91 ∷ 93 ∷ [] }
+    ∷ record { text = definedText (record { flags = withAlternate defaultFlags true }) emptyList; known = 91 ∷ 93 ∷ [] }
     -- the sheet with n 3: the bytes are `Px7`
-    ∷ record { text = written defaultFlags sheet (replicate 3 0) 0 .state .output .bytes; known = 80 ∷ 120 ∷ 55 ∷ [] }
+    ∷ record { text = written (record { flags = defaultFlags }) sheet (replicate 3 0) 0 .state .output .bytes; known = 80 ∷ 120 ∷ 55 ∷ [] }
     ∷ []
 
 -- 'Known pairs': each text of a list is its known bytes

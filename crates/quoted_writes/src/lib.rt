@@ -9,33 +9,27 @@ ghost use Rattle.formatting.specs.Escape.{escapeOf, escapeText, escaped, quoted
 ghost use Rattle.formatting.specs.Flags.{defaultFlags};
 ghost use Rattle.str_writer.specs.QuotedLeaves.{costOf, leading, quotedLeaves};
 ghost use Rattle.str_writer.specs.Value.{str, ascii, debug, whole};
-ghost use Rattle.str_writer.specs.Write.{outcome, splice, placed, write};
-use ascii_str::AsciiStr;
+ghost use Rattle.str_writer.specs.Write.{outcome, splice, placed, cursorFault, unless, write};
+ghost use Rattle.utils.specs.Text.{part};
 use error::Answer;
 use formatting::Escape;
 use formatting::HexFormatting;
 use formatting::escape_of;
 use formatting::hex_as_ascii;
 use str_writer::Written;
-use utf8::is_utf8;
+use str_writer::cursor_fault;
+use str_writer::judge_ascii;
+use str_writer::judge_str;
+use str_writer::range_fault;
 use utils::Range;
-use utils::is_char_boundary;
 use utils::saturate_range;
 
 pub fn write_str_debug(buf: &mut [u8], at: usize, s: &[u8]) -> Written
     ensures { λ r. ⌜ outcome r (now (buf .exit)) ≡ write defaultFlags (now (buf .entry)) at (str debug (now (s .entry)) (whole (now (s .entry)))) ⌝ }
 {
-    if buf.len() < at {
-        return Written {
-            at,
-            answer: Answer::BadCursor,
-        };
-    }
-    if !is_utf8(s) {
-        return Written {
-            at,
-            answer: Answer::NotUtf8,
-        };
+    let fault = judge_str(buf.len(), at, s);
+    if !fault.is_done() {
+        return Written { at, answer: fault };
     }
     put_quoted(buf, at, s)
 }
@@ -43,82 +37,42 @@ pub fn write_str_debug(buf: &mut [u8], at: usize, s: &[u8]) -> Written
 pub fn write_str_range_debug(buf: &mut [u8], at: usize, s: &[u8], range: Range) -> Written
     ensures { λ r. ⌜ outcome r (now (buf .exit)) ≡ write defaultFlags (now (buf .entry)) at (str debug (now (s .entry)) range) ⌝ }
 {
-    if buf.len() < at {
-        return Written {
-            at,
-            answer: Answer::BadCursor,
-        };
+    let fault = judge_str(buf.len(), at, s);
+    if !fault.is_done() {
+        return Written { at, answer: fault };
     }
-    if !is_utf8(s) {
-        return Written {
-            at,
-            answer: Answer::NotUtf8,
-        };
+    let cut = range_fault(s, range);
+    if !cut.is_done() {
+        return Written { at, answer: cut };
     }
-    let clamped = saturate_range(s, range);
-    let start = clamped.start;
-    let end = clamped.end;
-    if !is_char_boundary(s, start) {
-        return Written {
-            at,
-            answer: Answer::NotOnCharBoundary,
-        };
-    }
-    if !is_char_boundary(s, end) {
-        return Written {
-            at,
-            answer: Answer::NotOnCharBoundary,
-        };
-    }
-    put_quoted(buf, at, &s[start..end])
+    put_quoted_part(buf, at, s, range)
 }
 
 pub fn write_ascii_debug(buf: &mut [u8], at: usize, s: &[u8]) -> Written
     ensures { λ r. ⌜ outcome r (now (buf .exit)) ≡ write defaultFlags (now (buf .entry)) at (ascii debug (now (s .entry)) (whole (now (s .entry)))) ⌝ }
 {
-    if buf.len() < at {
-        return Written {
-            at,
-            answer: Answer::BadCursor,
-        };
-    }
-    let checked = AsciiStr::new(s);
-    if let AsciiStr::NotAsciiError { invalid_from: _ } = checked {
-        return Written {
-            at,
-            answer: Answer::NotAscii,
-        };
-    }
-    put_quoted(buf, at, s)
+    let end = s.len();
+    write_ascii_range_debug(buf, at, s, Range { start: 0, end })
 }
 
 pub fn write_ascii_range_debug(buf: &mut [u8], at: usize, s: &[u8], range: Range) -> Written
     ensures { λ r. ⌜ outcome r (now (buf .exit)) ≡ write defaultFlags (now (buf .entry)) at (ascii debug (now (s .entry)) range) ⌝ }
 {
-    if buf.len() < at {
-        return Written {
-            at,
-            answer: Answer::BadCursor,
-        };
+    let fault = judge_ascii(buf.len(), at, s);
+    if !fault.is_done() {
+        return Written { at, answer: fault };
     }
-    let checked = AsciiStr::new(s);
-    if let AsciiStr::NotAsciiError { invalid_from: _ } = checked {
-        return Written {
-            at,
-            answer: Answer::NotAscii,
-        };
-    }
-    let clamped = saturate_range(s, range);
-    let start = clamped.start;
-    let end = clamped.end;
-    put_quoted(buf, at, &s[start..end])
+    put_quoted_part(buf, at, s, range)
 }
 
 // Writes s between marks, or leaves what the escapes reach before one overspends.
-fn put_quoted(buf: &mut [u8], at: usize, s: &[u8]) -> Written
-    requires { ⌜ at ≤ length (now buf) ⌝ }
-    ensures { λ r. ⌜ outcome r (now (buf .exit)) ≡ placed (now (buf .entry)) at (quoted (now (s .entry))) (quotedLeaves (length (now (buf .entry)) - at) (now (s .entry))) ⌝ }
+pub fn put_quoted(buf: &mut [u8], at: usize, s: &[u8]) -> Written
+    ensures { λ r. ⌜ outcome r (now (buf .exit)) ≡ unless (cursorFault (now (buf .entry)) at) (now (buf .entry)) at (placed (now (buf .entry)) at (quoted (now (s .entry))) (quotedLeaves (length (now (buf .entry)) - at) (now (s .entry)))) ⌝ }
 {
+    let fault = cursor_fault(buf.len(), at);
+    if !fault.is_done() {
+        return Written { at, answer: fault };
+    }
     let room = buf.len() - at;
     if room < s.len() + 2 {
         return Written {
@@ -139,6 +93,16 @@ fn put_quoted(buf: &mut [u8], at: usize, s: &[u8]) -> Written
         at: end + 1,
         answer: Answer::Done,
     }
+}
+
+// The same of the bytes of s in the clamped range.
+pub fn put_quoted_part(buf: &mut [u8], at: usize, s: &[u8], range: Range) -> Written
+    ensures { λ r. ⌜ outcome r (now (buf .exit)) ≡ unless (cursorFault (now (buf .entry)) at) (now (buf .entry)) at (placed (now (buf .entry)) at (quoted (part (now (s .entry)) range)) (quotedLeaves (length (now (buf .entry)) - at) (part (now (s .entry)) range))) ⌝ }
+{
+    let clamped = saturate_range(s, range);
+    let start = clamped.start;
+    let end = clamped.end;
+    put_quoted(buf, at, &s[start..end])
 }
 
 // Writes the bytes of s at w, where left may be spent on escapes. The place after them, or 0 where

@@ -7,11 +7,11 @@ use Prim.Native.Nat.{ℕ, zero, suc, _+_, _≤_, _<_}
 use lib.ListN.{length, take, drop}
 use Rattle.error.specs.declared.Answer.the-variants.{Done, NotEnoughSpace}
 use Rattle.error.specs.Answer.{numberOf}
-use Rattle.formatting.specs.declared.flags.FormattingFlags.{FormattingFlags}
-use Rattle.agreement.specs.Call.{Call}
-use Rattle.agreement.specs.Model.{Mode, counting, writing, Output, State, Run, start, hold, beyond, most}
+use Rattle.calls.specs.declared.Settings.{Settings}
+use Rattle.calls.specs.Call.{Call, hold}
+use Rattle.calls.specs.Model.{Mode, counting, writing, Output, State, Run, start, beyond, most}
 use Rattle.agreement.specs.Agreement.{firstRefusal, AllWhole, Proper, definedText}
-use Rattle.encoded_call.specs.Encoding.{stepOr}
+use Rattle.formatter.specs.Calls.{stepOr}
 use Rattle.run.specs.declared.Ran.{Ran}
 
 -- Document 01, 'A nested record': each call, also after a refused one, gets what the call before left; what is no call has an answer too
@@ -40,16 +40,20 @@ abbrev pub ended : ℕ → Run → Played
 ended e r = record { first = hold e (firstRefusal (r .answers)); place = refusedAt (r .answers); entries = length (r .state .stack); output = r .state .output }
 
 -- Document 01, 'A nested record': a fresh run; 9 before all, also of no calls
-abbrev pub played : Mode → List ℕ → FormattingFlags → List (Option Call) → Played
-played m b f ds = ended (beyond m b) (runOr (start m b f) ds)
+abbrev pub played : Mode → List ℕ → Settings → List (Option Call) → Played
+played m b S ds = ended (beyond m b) (runOr (start m b S) ds)
 
--- docs/DECISIONS.md, 'The formatter': the end that a Ran is, of a counting run
+-- docs/DECISIONS.md, 'The formatter': the end that a Ran is, with the mode and the bytes as they then are
+abbrev endOf : Ran → Mode → List ℕ → Played
+endOf r m b = record { first = r .first; place = r .place; entries = r .entries; output = record { mode = m; bytes = b } }
+
+-- docs/DECISIONS.md, 'The formatter': of a counting run
 abbrev pub endCounted : Ran → Played
-endCounted r = record { first = r .first; place = r .place; entries = r .entries; output = record { mode = counting (r .number); bytes = [] } }
+endCounted r = endOf r (counting (r .number)) []
 
--- docs/DECISIONS.md, 'The formatter': the same of a writing run, with the bytes as they then are
+-- docs/DECISIONS.md, 'The formatter': of a writing run
 abbrev pub endWritten : Ran → List ℕ → Played
-endWritten r b = record { first = r .first; place = r .place; entries = r .entries; output = record { mode = writing (r .number); bytes = b } }
+endWritten r b = endOf r (writing (r .number)) b
 
 -- docs/DECISIONS.md, 'The formatter': the answers of a run, laid in lent places as far as there is room
 abbrev pub stored : List ℕ → List ℕ → List ℕ
@@ -58,10 +62,10 @@ stored (x ∷ l) [] = x ∷ l
 stored (x ∷ l) (a ∷ r) = a ∷ stored l r
 
 -- demand 3, counting: a proper run answers 0 and totals exactly the length of its defined text
-abbrev pub CountAgrees : FormattingFlags → List (Option Call) → ℕ → ℕ → Type 0
-CountAgrees f ds first total =
-    (cs : List Call) → ds ≡ map some cs → Proper f cs → length (definedText f cs) ≤ most →
-    (first ≡ numberOf Done) × (total ≡ length (definedText f cs))
+abbrev pub CountAgrees : Settings → List (Option Call) → ℕ → ℕ → Type 0
+CountAgrees S ds first total =
+    (cs : List Call) → ds ≡ map some cs → Proper S cs → length (definedText S cs) ≤ most →
+    (first ≡ numberOf Done) × (total ≡ length (definedText S cs))
 
 -- demand 3, writing t from p into b: it answers 0 exactly when t fits, and then leaves exactly t and the cursor past it; else the first refusal is 1; no byte before p changes, and there are as many as before
 pub record WrittenAs (t b : List ℕ) (p first cursor : ℕ) (b' : List ℕ) : Type 0 where
@@ -72,10 +76,10 @@ pub record WrittenAs (t b : List ℕ) (p first cursor : ℕ) (b' : List ℕ) : T
   pub size : length b' ≡ length b
 
 -- demand 3, writing: so a proper run is written
-abbrev pub WriteAgrees : FormattingFlags → List (Option Call) → List ℕ → ℕ → ℕ → ℕ → List ℕ → Type 0
-WriteAgrees f ds b p first cursor b' =
-    (cs : List Call) → ds ≡ map some cs → Proper f cs → length (definedText f cs) ≤ most → p ≤ length b →
-    WrittenAs (definedText f cs) b p first cursor b'
+abbrev pub WriteAgrees : Settings → List (Option Call) → List ℕ → ℕ → ℕ → ℕ → List ℕ → Type 0
+WriteAgrees S ds b p first cursor b' =
+    (cs : List Call) → ds ≡ map some cs → Proper S cs → length (definedText S cs) ≤ most → p ≤ length b →
+    WrittenAs (definedText S cs) b p first cursor b'
 
 -- what a sender relies on: counting answered 0 with a total of c and left nothing open
 pub record CountedAs (e : Played) (c : ℕ) : Type 0 where
@@ -90,8 +94,8 @@ callsIn (none ∷ ds) = callsIn ds
 callsIn (some c ∷ ds) = c ∷ callsIn ds
 
 -- what a sender relies on: where counting ended as e, so with a total of c, the defined text has c bytes; writing from p into b answers 0 exactly if they are free and no string is cut inside a character; and then the defined text stands there, and the cursor past it
-abbrev pub WritesAsCounted : Played → FormattingFlags → List (Option Call) → List ℕ → ℕ → ℕ → ℕ → List ℕ → Type 0
-WritesAsCounted e f ds b p first cursor b' =
+abbrev pub WritesAsCounted : Played → Settings → List (Option Call) → List ℕ → ℕ → ℕ → ℕ → List ℕ → Type 0
+WritesAsCounted e S ds b p first cursor b' =
     (c : ℕ) → CountedAs e c →
-    (length (definedText f (callsIn ds)) ≡ c) × ((first ≡ numberOf Done) ↔ ((p + c ≤ length b) × AllWhole (callsIn ds)))
-    × (first ≡ numberOf Done → (cursor ≡ p + c) × (b' ≡ take p b ++ definedText f (callsIn ds) ++ drop (p + c) b))
+    (length (definedText S (callsIn ds)) ≡ c) × ((first ≡ numberOf Done) ↔ ((p + c ≤ length b) × AllWhole (callsIn ds)))
+    × (first ≡ numberOf Done → (cursor ≡ p + c) × (b' ≡ take p b ++ definedText S (callsIn ds) ++ drop (p + c) b))

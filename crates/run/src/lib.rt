@@ -3,14 +3,15 @@
 ghost use mathlib.Core.Path.{_≡_};
 ghost use mathlib.Core.List.{[]};
 ghost use lib.ListN.{set};
-ghost use Rattle.agreement.specs.Model.{hold, start, counting, writing};
+ghost use Rattle.calls.specs.Call.{hold};
+ghost use Rattle.calls.specs.Model.{start, counting, writing};
 ghost use Rattle.writer_backend.specs.Output.{outputOf, modeOf};
 ghost use Rattle.encoded_call.specs.Encoding.{decode};
 ghost use Rattle.run.specs.Played.{runOr, played, endCounted, endWritten, stored, CountAgrees, WriteAgrees, WritesAsCounted};
 ghost use Rattle.run.specs.Noting.{noted, placeOr};
+use calls::Settings;
 use encoded_call::call_at;
 use formatter::Head;
-use formatting::FormattingFlags;
 use writer_backend::WriterBackend;
 use writer_backend::past;
 
@@ -70,7 +71,7 @@ fn store(answers: &mut [u8], at: usize, answer: u8)
 // first refusal and its place are lent: so they stay out of the registers while nothing is refused.
 fn play(
     mode: WriterBackend,
-    flags: FormattingFlags,
+    settings: Settings,
     buf: &mut [u8],
     calls: &[u64],
     text: &[u8],
@@ -78,11 +79,11 @@ fn play(
     first: &mut u8,
     place: &mut usize,
 ) -> End
-    ensures { λ r. ⌜ record { first = now (first .exit); place = now (place .exit); entries = r .entries; output = outputOf (r .mode) (now (buf .exit)) } ≡ played (modeOf mode) (now (buf .entry)) flags (decode (now (calls .entry)) (now (text .entry))) ⌝ }
-    ensures { λ _. ⌜ now (answers .exit) ≡ stored (now (answers .entry)) (runOr (start (modeOf mode) (now (buf .entry)) flags) (decode (now (calls .entry)) (now (text .entry))) .answers) ⌝ }
+    ensures { λ r. ⌜ record { first = now (first .exit); place = now (place .exit); entries = r .entries; output = outputOf (r .mode) (now (buf .exit)) } ≡ played (modeOf mode) (now (buf .entry)) settings (decode (now (calls .entry)) (now (text .entry))) ⌝ }
+    ensures { λ _. ⌜ now (answers .exit) ≡ stored (now (answers .entry)) (runOr (start (modeOf mode) (now (buf .entry)) settings) (decode (now (calls .entry)) (now (text .entry))) .answers) ⌝ }
 {
     let mut stack = [0u32; 64];
-    let mut head = Head::new(mode, flags);
+    let mut head = Head::new(mode, settings);
     *first = past(mode, buf);
     *place = 0;
     let mut i = 0;
@@ -114,24 +115,20 @@ fn play(
 // room.
 fn count_each_from(
     total: usize,
-    flags: FormattingFlags,
+    settings: Settings,
     calls: &[u64],
     text: &[u8],
     answers: &mut [u8],
 ) -> Ran
-    ensures { λ r. ⌜ endCounted r ≡ played (counting total) [] flags (decode (now (calls .entry)) (now (text .entry))) ⌝ }
-    ensures { λ _. ⌜ now (answers .exit) ≡ stored (now (answers .entry)) (runOr (start (counting total) [] flags) (decode (now (calls .entry)) (now (text .entry))) .answers) ⌝ }
+    ensures { λ r. ⌜ endCounted r ≡ played (counting total) [] settings (decode (now (calls .entry)) (now (text .entry))) ⌝ }
+    ensures { λ _. ⌜ now (answers .exit) ≡ stored (now (answers .entry)) (runOr (start (counting total) [] settings) (decode (now (calls .entry)) (now (text .entry))) .answers) ⌝ }
 {
-    let mode = WriterBackend {
-        counting: 1,
-        number: total,
-    };
     let mut none = [0u8; 0];
     let mut first = 0u8;
     let mut place = 0usize;
     let end = play(
-        mode,
-        flags,
+        WriterBackend::counting(total),
+        settings,
         &mut none,
         calls,
         text,
@@ -139,10 +136,10 @@ fn count_each_from(
         &mut first,
         &mut place,
     );
-    let counted = end.mode;
+    let after = end.mode;
     Ran {
         first,
-        number: counted.number,
+        number: after.number,
         place,
         entries: end.entries,
     }
@@ -150,55 +147,51 @@ fn count_each_from(
 
 // Counts a run from a total that there is already: its first refusal, with the place of that call,
 // the total at the end and how many entries are then open.
-pub fn count_run_from(total: usize, flags: FormattingFlags, calls: &[u64], text: &[u8]) -> Ran
-    ensures { λ r. ⌜ endCounted r ≡ played (counting total) [] flags (decode (now (calls .entry)) (now (text .entry))) ⌝ }
+pub fn count_run_from(total: usize, settings: Settings, calls: &[u64], text: &[u8]) -> Ran
+    ensures { λ r. ⌜ endCounted r ≡ played (counting total) [] settings (decode (now (calls .entry)) (now (text .entry))) ⌝ }
 {
     let mut none = [0u8; 0];
-    count_each_from(total, flags, calls, text, &mut none)
+    count_each_from(total, settings, calls, text, &mut none)
 }
 
 // Counts a run, and stores each call's answer as far as there is room.
-pub fn count_run_each(flags: FormattingFlags, calls: &[u64], text: &[u8], answers: &mut [u8]) -> Ran
-    ensures { λ r. ⌜ endCounted r ≡ played (counting 0) [] flags (decode (now (calls .entry)) (now (text .entry))) ⌝ }
-    ensures { λ _. ⌜ now (answers .exit) ≡ stored (now (answers .entry)) (runOr (start (counting 0) [] flags) (decode (now (calls .entry)) (now (text .entry))) .answers) ⌝ }
-    ensures { λ r. ⌜ CountAgrees flags (decode (now (calls .entry)) (now (text .entry))) (r .first) (r .number) ⌝ }
+pub fn count_run_each(settings: Settings, calls: &[u64], text: &[u8], answers: &mut [u8]) -> Ran
+    ensures { λ r. ⌜ endCounted r ≡ played (counting 0) [] settings (decode (now (calls .entry)) (now (text .entry))) ⌝ }
+    ensures { λ _. ⌜ now (answers .exit) ≡ stored (now (answers .entry)) (runOr (start (counting 0) [] settings) (decode (now (calls .entry)) (now (text .entry))) .answers) ⌝ }
+    ensures { λ r. ⌜ CountAgrees settings (decode (now (calls .entry)) (now (text .entry))) (r .first) (r .number) ⌝ }
 {
-    count_each_from(0, flags, calls, text, answers)
+    count_each_from(0, settings, calls, text, answers)
 }
 
 // Counts a run: its first refusal, with the place of that call, its total and how many entries it
 // leaves open.
-pub fn count_run(flags: FormattingFlags, calls: &[u64], text: &[u8]) -> Ran
-    ensures { λ r. ⌜ endCounted r ≡ played (counting 0) [] flags (decode (now (calls .entry)) (now (text .entry))) ⌝ }
-    ensures { λ r. ⌜ CountAgrees flags (decode (now (calls .entry)) (now (text .entry))) (r .first) (r .number) ⌝ }
+pub fn count_run(settings: Settings, calls: &[u64], text: &[u8]) -> Ran
+    ensures { λ r. ⌜ endCounted r ≡ played (counting 0) [] settings (decode (now (calls .entry)) (now (text .entry))) ⌝ }
+    ensures { λ r. ⌜ CountAgrees settings (decode (now (calls .entry)) (now (text .entry))) (r .first) (r .number) ⌝ }
 {
     let mut none = [0u8; 0];
-    count_run_each(flags, calls, text, &mut none)
+    count_run_each(settings, calls, text, &mut none)
 }
 
 // Writes a run from a cursor, and stores each call's answer as far as there is room.
 pub fn write_run_each(
-    flags: FormattingFlags,
+    settings: Settings,
     buf: &mut [u8],
     at: usize,
     calls: &[u64],
     text: &[u8],
     answers: &mut [u8],
 ) -> Ran
-    ensures { λ r. ⌜ endWritten r (now (buf .exit)) ≡ played (writing at) (now (buf .entry)) flags (decode (now (calls .entry)) (now (text .entry))) ⌝ }
-    ensures { λ _. ⌜ now (answers .exit) ≡ stored (now (answers .entry)) (runOr (start (writing at) (now (buf .entry)) flags) (decode (now (calls .entry)) (now (text .entry))) .answers) ⌝ }
-    ensures { λ r. ⌜ WriteAgrees flags (decode (now (calls .entry)) (now (text .entry))) (now (buf .entry)) at (r .first) (r .number) (now (buf .exit)) ⌝ }
-    ensures { λ r. ⌜ WritesAsCounted (played (counting 0) [] flags (decode (now (calls .entry)) (now (text .entry)))) flags (decode (now (calls .entry)) (now (text .entry))) (now (buf .entry)) at (r .first) (r .number) (now (buf .exit)) ⌝ }
+    ensures { λ r. ⌜ endWritten r (now (buf .exit)) ≡ played (writing at) (now (buf .entry)) settings (decode (now (calls .entry)) (now (text .entry))) ⌝ }
+    ensures { λ _. ⌜ now (answers .exit) ≡ stored (now (answers .entry)) (runOr (start (writing at) (now (buf .entry)) settings) (decode (now (calls .entry)) (now (text .entry))) .answers) ⌝ }
+    ensures { λ r. ⌜ WriteAgrees settings (decode (now (calls .entry)) (now (text .entry))) (now (buf .entry)) at (r .first) (r .number) (now (buf .exit)) ⌝ }
+    ensures { λ r. ⌜ WritesAsCounted (played (counting 0) [] settings (decode (now (calls .entry)) (now (text .entry)))) settings (decode (now (calls .entry)) (now (text .entry))) (now (buf .entry)) at (r .first) (r .number) (now (buf .exit)) ⌝ }
 {
-    let mode = WriterBackend {
-        counting: 0,
-        number: at,
-    };
     let mut first = 0u8;
     let mut place = 0usize;
     let end = play(
-        mode,
-        flags,
+        WriterBackend::writing(at),
+        settings,
         buf,
         calls,
         text,
@@ -217,17 +210,11 @@ pub fn write_run_each(
 
 // Writes a run from a cursor: its first refusal, 9 where the cursor is past the buffer, with the
 // place of that call, the cursor at the end and how many entries it leaves open.
-pub fn write_run(
-    flags: FormattingFlags,
-    buf: &mut [u8],
-    at: usize,
-    calls: &[u64],
-    text: &[u8],
-) -> Ran
-    ensures { λ r. ⌜ endWritten r (now (buf .exit)) ≡ played (writing at) (now (buf .entry)) flags (decode (now (calls .entry)) (now (text .entry))) ⌝ }
-    ensures { λ r. ⌜ WriteAgrees flags (decode (now (calls .entry)) (now (text .entry))) (now (buf .entry)) at (r .first) (r .number) (now (buf .exit)) ⌝ }
-    ensures { λ r. ⌜ WritesAsCounted (played (counting 0) [] flags (decode (now (calls .entry)) (now (text .entry)))) flags (decode (now (calls .entry)) (now (text .entry))) (now (buf .entry)) at (r .first) (r .number) (now (buf .exit)) ⌝ }
+pub fn write_run(settings: Settings, buf: &mut [u8], at: usize, calls: &[u64], text: &[u8]) -> Ran
+    ensures { λ r. ⌜ endWritten r (now (buf .exit)) ≡ played (writing at) (now (buf .entry)) settings (decode (now (calls .entry)) (now (text .entry))) ⌝ }
+    ensures { λ r. ⌜ WriteAgrees settings (decode (now (calls .entry)) (now (text .entry))) (now (buf .entry)) at (r .first) (r .number) (now (buf .exit)) ⌝ }
+    ensures { λ r. ⌜ WritesAsCounted (played (counting 0) [] settings (decode (now (calls .entry)) (now (text .entry)))) settings (decode (now (calls .entry)) (now (text .entry))) (now (buf .entry)) at (r .first) (r .number) (now (buf .exit)) ⌝ }
 {
     let mut none = [0u8; 0];
-    write_run_each(flags, buf, at, calls, text, &mut none)
+    write_run_each(settings, buf, at, calls, text, &mut none)
 }

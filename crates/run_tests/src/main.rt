@@ -1,16 +1,17 @@
 // Runs of calls, counted and written. A case is a line of standard input: README.md has the forms of
 // the lines and what each prints.
-mod calls;
+mod line;
 mod print;
 
-use calls::Head;
-use calls::name_of;
-use calls::read_head;
-use calls::read_run;
+use calls::Settings;
 use fields::index_of;
 use formatting::FormattingFlags;
 use libc::STDIN_FILENO;
 use libc::STDOUT_FILENO;
+use line::Head;
+use line::name_of;
+use line::read_head;
+use line::read_run;
 use line_input::read_more;
 use lines::MAX_LINE;
 use lines::Reader;
@@ -30,19 +31,19 @@ use str_writer::write_ascii_repeated;
 use utils::slice_up_to_len;
 
 // Counts a run on from a total (3), or writes it from a place of four dots (4).
-fn play_once(word: u64, flags: FormattingFlags, n: usize, calls: &[u64], text: &[u8]) -> Ran {
+fn play_once(word: u64, settings: Settings, n: usize, calls: &[u64], text: &[u8]) -> Ran {
     let mut dots = [b'.'; 4];
     if word == 3 {
-        return count_run_from(n, flags, calls, text);
+        return count_run_from(n, settings, calls, text);
     }
-    write_run(flags, &mut dots, n, calls, text)
+    write_run(settings, &mut dots, n, calls, text)
 }
 
 // Lays the name of a run, and what it gives, played as its word says: 0 show, 1 both, 2 add, 3 count,
 // 4 write, 5 each, 6 calls.
 fn play(
     word: u64,
-    flags: FormattingFlags,
+    settings: Settings,
     n: usize,
     name: &[u8],
     calls: &[u64],
@@ -53,21 +54,24 @@ fn play(
     let colon = write_ascii_repeated(out, named.at, b':', 1);
     let at = colon.at;
     if word == 0 {
-        return show(out, at, flags, n, calls, text);
+        return show(out, at, settings, n, calls, text);
     }
     if word == 1 {
-        return put_both(out, at, flags, FormattingFlags::DEFAULT, n, calls, text);
+        let default = Settings {
+            flags: FormattingFlags::DEFAULT,
+        };
+        return put_both(out, at, settings, default, n, calls, text);
     }
     if word == 2 {
-        return put_added(out, at, flags, n, calls, text);
+        return put_added(out, at, settings, n, calls, text);
     }
     if word == 5 {
-        return put_each(out, at, flags, n, calls, text);
+        return put_each(out, at, settings, n, calls, text);
     }
     if word == 6 {
-        return put_calls(out, at, flags, n, calls, text);
+        return put_calls(out, at, settings, n, calls, text);
     }
-    put_ran(out, at, play_once(word, flags, n, calls, text), b'\n')
+    put_ran(out, at, play_once(word, settings, n, calls, text), b'\n')
 }
 
 // Lays what the run of a line prints, with room for its words and its texts.
@@ -75,12 +79,12 @@ fn answer_run(line: &[u8], words: &mut [u64], pool: &mut [u8], out: &mut [u8]) -
     let n = index_of(line, b';');
     let head = &line[0..n];
     let run = read_run(&line[n..], words, pool);
-    if let Head::Is(word, flags, v) = read_head(head) {
+    if let Head::Is(word, settings, v) = read_head(head) {
         if run.is_run && line.len() <= MAX_LINE {
             let k = run.words;
             let all = &words[..];
             if k < all.len() {
-                return play(word, flags, v, name_of(head), &all[0..k], pool, out);
+                return play(word, settings, v, name_of(head), &all[0..k], pool, out);
             }
         }
     }

@@ -1,4 +1,5 @@
 // What is printed, laid into a buffer at a place. Each function gives the place behind it.
+use calls::Settings;
 use compute_str_length::CountedCall;
 use compute_str_length::count_call_then_len;
 use compute_str_length::count_run_then_add_len;
@@ -6,7 +7,6 @@ use encoded_call::op_at;
 use fields::put_hex;
 use fields::put_number;
 use formatter::Head;
-use formatting::FormattingFlags;
 use formatting::bit;
 use lines::part;
 use run::Ran;
@@ -41,12 +41,12 @@ pub(crate) fn put_ran(out: &mut [u8], at: usize, r: Ran, after: u8) -> usize {
 pub(crate) fn put_added(
     out: &mut [u8],
     at: usize,
-    flags: FormattingFlags,
+    settings: Settings,
     len: usize,
     calls: &[u64],
     text: &[u8],
 ) -> usize {
-    let r = count_run_then_add_len(flags, calls, text, len);
+    let r = count_run_then_add_len(settings, calls, text, len);
     let ran = r.ran;
     let end = put_ran(out, at, ran, b' ');
     let answer = put_number(out, end, r.answer as u64, b' ');
@@ -90,17 +90,13 @@ fn put_open(out: &mut [u8], at: usize, head: Head) -> usize {
 pub(crate) fn put_calls(
     out: &mut [u8],
     at: usize,
-    flags: FormattingFlags,
+    settings: Settings,
     from: usize,
     calls: &[u64],
     text: &[u8],
 ) -> usize {
-    let past = WriterBackend {
-        counting: 0,
-        number: 1,
-    };
     let mut stack = [0u32; 64];
-    let mut head = Head::new(past, flags);
+    let mut head = Head::new(WriterBackend::writing(1), settings);
     let mut total = from;
     let mut end = at;
     let mut rest = calls;
@@ -116,12 +112,12 @@ pub(crate) fn put_calls(
     put_open(out, end, head)
 }
 
-// A run counted, and written from a place of 160 dots, by flags for each.
+// A run counted, and written from a place of 160 dots, by settings for each.
 pub(crate) fn put_both(
     out: &mut [u8],
     at: usize,
-    counted: FormattingFlags,
-    written: FormattingFlags,
+    counted: Settings,
+    written: Settings,
     from: usize,
     calls: &[u64],
     text: &[u8],
@@ -148,12 +144,12 @@ fn put_answers(out: &mut [u8], at: usize, r: Ran, answers: &[u8], after: &[u8]) 
 fn put_counted_each(
     out: &mut [u8],
     at: usize,
-    flags: FormattingFlags,
+    settings: Settings,
     answers: &mut [u8],
     calls: &[u64],
     text: &[u8],
 ) -> usize {
-    let ran = count_run_each(flags, calls, text, answers);
+    let ran = count_run_each(settings, calls, text, answers);
     put_answers(out, at, ran, answers, b",")
 }
 
@@ -161,13 +157,13 @@ fn put_counted_each(
 fn put_written_each(
     out: &mut [u8],
     at: usize,
-    flags: FormattingFlags,
+    settings: Settings,
     answers: &mut [u8],
     calls: &[u64],
     text: &[u8],
 ) -> usize {
     let mut dots = [b'.'; 160];
-    let ran = write_run_each(flags, &mut dots, 0, calls, text, answers);
+    let ran = write_run_each(settings, &mut dots, 0, calls, text, answers);
     put_answers(out, at, ran, answers, b"\n")
 }
 
@@ -176,7 +172,7 @@ fn put_written_each(
 pub(crate) fn put_each(
     out: &mut [u8],
     at: usize,
-    flags: FormattingFlags,
+    settings: Settings,
     n: usize,
     calls: &[u64],
     text: &[u8],
@@ -187,15 +183,15 @@ pub(crate) fn put_each(
     }
     let mut counted = [b'.'; 160];
     let mut written = [b'.'; 160];
-    let end = put_counted_each(out, at, flags, &mut counted[0..n], calls, text);
-    put_written_each(out, end, flags, &mut written[0..n], calls, text)
+    let end = put_counted_each(out, at, settings, &mut counted[0..n], calls, text);
+    put_written_each(out, end, settings, &mut written[0..n], calls, text)
 }
 
 // The first calls of a run, none and one and so on to all of them.
 fn put_prefixes(
     out: &mut [u8],
     at: usize,
-    flags: FormattingFlags,
+    settings: Settings,
     from: usize,
     calls: &[u64],
     text: &[u8],
@@ -206,7 +202,7 @@ fn put_prefixes(
         let n = calls.len() - left;
         let count = put_next(out, end, n / 5, b' ');
         let head = write_ascii(out, count, b"calls:");
-        end = put_both(out, head.at, flags, flags, from, &calls[0..n], text);
+        end = put_both(out, head.at, settings, settings, from, &calls[0..n], text);
         if left < 5 {
             break;
         }
@@ -219,13 +215,13 @@ fn put_prefixes(
 fn put_written(
     out: &mut [u8],
     at: usize,
-    flags: FormattingFlags,
+    settings: Settings,
     buf: &mut [u8],
     from: usize,
     calls: &[u64],
     text: &[u8],
 ) -> usize {
-    let ran = put_ran(out, at, write_run(flags, buf, from, calls, text), b' ');
+    let ran = put_ran(out, at, write_run(settings, buf, from, calls, text), b' ');
     let bytes = put_hex(out, ran, buf);
     let end = write_ascii_repeated(out, bytes.at, b'\n', 1);
     end.at
@@ -235,7 +231,7 @@ fn put_written(
 fn put_sizes(
     out: &mut [u8],
     at: usize,
-    flags: FormattingFlags,
+    settings: Settings,
     most: u8,
     calls: &[u64],
     text: &[u8],
@@ -246,12 +242,12 @@ fn put_sizes(
         let mut dots = [b'.'; 256];
         let size = n as usize;
         let head = put_next(out, end, size, b':');
-        end = put_written(out, head, flags, &mut dots[0..size], 0, calls, text);
+        end = put_written(out, head, settings, &mut dots[0..size], 0, calls, text);
         n += 1;
     }
     let mut four = [b'.'; 4];
     let past = write_ascii(out, end, b" 4 at 5:");
-    put_written(out, past.at, flags, &mut four, 5, calls, text)
+    put_written(out, past.at, settings, &mut four, 5, calls, text)
 }
 
 // A run counted, its first calls, and the run written into buffers of every size up to one byte more
@@ -259,16 +255,16 @@ fn put_sizes(
 pub(crate) fn show(
     out: &mut [u8],
     at: usize,
-    flags: FormattingFlags,
+    settings: Settings,
     from: usize,
     calls: &[u64],
     text: &[u8],
 ) -> usize {
-    let total = count_run(flags, calls, text);
+    let total = count_run(settings, calls, text);
     let head = write_ascii(out, at, b" counted");
     let counted = put_ran(out, head.at, total, b'\n');
-    let begun = put_prefixes(out, counted, flags, from, calls, text);
+    let begun = put_prefixes(out, counted, settings, from, calls, text);
     let k = total.number;
     let most: u8 = if k < 158 { (k + 2) as u8 } else { 160 };
-    put_sizes(out, begun, flags, most, calls, text)
+    put_sizes(out, begun, settings, most, calls, text)
 }

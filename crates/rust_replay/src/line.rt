@@ -1,4 +1,5 @@
 // A line is read, its run is played, and what that gives is compared with what the line has.
+use calls::Settings;
 use fields::HexBytes;
 use fields::Number;
 use fields::first_field;
@@ -73,12 +74,14 @@ pub(crate) fn is_same(line: &[u8]) -> bool {
     let HexBytes::Are(len) = from_hex(first_field(texts), &mut text_space) else {
         return false;
     };
-    let flags = flags_of(head[0]);
+    let settings = Settings {
+        flags: flags_of(head[0]),
+    };
     let text = slice_up_to_len(&text_space, len);
     let buf = &mut buf_space[0..room];
     fill(buf);
-    let counted = count_run(flags, words, text);
-    let written = write_run(flags, buf, head[1] as usize, words, text);
+    let counted = count_run(settings, words, text);
+    let written = write_run(settings, buf, head[1] as usize, words, text);
     let end = put_given(counted, written, buf, &mut given);
     same(later_fields(texts), slice_up_to_len(&given, end))
 }

@@ -11,8 +11,8 @@ use lib.ListN.{length, take, drop, replicate, length-append, length-replicate}
 use lib.Seq.{take-append-seam, take-at}
 use borrow.Author.Tests.{ltb-false}
 use Rattle.formatting.specs.declared.flags.FormattingFlags.{FormattingFlags}
-use Rattle.agreement.specs.Call.{Call}
-use Rattle.agreement.specs.Model.{numberIn, State, step, run, most}
+use Rattle.calls.specs.Call.{Call}
+use Rattle.calls.specs.Model.{numberIn, State, step, run, most}
 use Rattle.agreement.specs.Agreement.{AllDone, Proper, definedText, Counted, Written}
 use Rattle.agreement.proofs.Agree.{agree}
 use Rattle.fields.specs.Fields.{bytes, same, fields}
@@ -111,40 +111,40 @@ take-zeros (suc p) zero h = absurd (omega arith)
 take-zeros (suc p) (suc n) h = ap (λ (l : List ℕ). 0 ∷ l) (take-zeros p n (omega arith))
 
 pub sheet-agrees : SheetAgrees
-sheet-agrees input n p f cs S P h =
+sheet-agrees input n p S cs O P h =
     record {
-      rows = rw (S .lines, S .begins) (printed-calls 2 (freshSheet (replicate n 0) p f) (S .later) cs (S .calls));
-      exactly = (λ z. fits z, λ k. done-zero 2 S₀ cs (C .done) (W .exactly .1 (room k)));
-      last = λ k. rw (after-counted S₀ cs, after-written S₀ cs, C .output, W .cursor (room k), W .bytes (room k), before (room k));
-      counts = rw (counting-rows 2 S₀ cs) (C .done);
-      total = rw (after-counted S₀ cs, C .output) refl;
-      refused = λ k. rw (writing-rows 2 S₀ cs) (W .refused (omega (arith, size)));
-      before = rw (after-written S₀ cs) (W .before ∙ take-zeros p n inside);
+      rows = rw (O .lines, O .begins) (printed-calls 2 (freshSheet (replicate n 0) p S) (O .later) cs (O .calls));
+      exactly = (λ z. fits z, λ k. done-zero 2 both cs (C .done) (W .exactly .1 (room k)));
+      last = λ k. rw (after-counted both cs, after-written both cs, C .output, W .cursor (room k), W .bytes (room k), before (room k));
+      counts = rw (counting-rows 2 both cs) (C .done);
+      total = rw (after-counted both cs, C .output) refl;
+      refused = λ k. rw (writing-rows 2 both cs) (W .refused (omega (arith, size)));
+      before = rw (after-written both cs) (W .before ∙ take-zeros p n inside);
     }
   where
     size : length (replicate {A = ℕ} n 0) ≡ n
     size = length-replicate n 0
 
     inside : p ≤ n
-    inside = begin-within n p f (S .first) (S .begins)
+    inside = begin-within n p (S .flags) (O .first) (O .begins)
 
-    S₀ : Sheet
-    S₀ = freshSheet (replicate n 0) p f
+    both : Sheet
+    both = freshSheet (replicate n 0) p S
 
-    C : Counted f cs []
-    C = agree f cs P h .0 []
+    C : Counted S cs []
+    C = agree S cs P h .0 []
 
-    W : Written f cs (replicate n 0) p
-    W = agree f cs P h .1 (replicate n 0) p (omega (arith, size, inside))
+    W : Written S cs (replicate n 0) p
+    W = agree S cs P h .1 (replicate n 0) p (omega (arith, size, inside))
 
-    room : p + length (definedText f cs) ≤ n → p + length (definedText f cs) ≤ length (replicate {A = ℕ} n 0)
+    room : p + length (definedText S cs) ≤ n → p + length (definedText S cs) ≤ length (replicate {A = ℕ} n 0)
     room k = omega (arith, size)
 
-    fits : AllZero (sheetRows n p f cs) → p + length (definedText f cs) ≤ n
-    fits z = let k = W .exactly .0 (zero-done 2 (freshSheet (replicate n 0) p f) cs z .1) in omega (arith, size)
+    fits : AllZero (sheetRows n p S cs) → p + length (definedText S cs) ≤ n
+    fits z = let k = W .exactly .0 (zero-done 2 (freshSheet (replicate n 0) p S) cs z .1) in omega (arith, size)
 
-    before : p + length (definedText f cs) ≤ length (replicate {A = ℕ} n 0)
-        → take (p + length (definedText f cs)) (take p (replicate n 0) ++ definedText f cs ++ drop (p + length (definedText f cs)) (replicate n 0)) ≡ replicate p 0 ++ definedText f cs
+    before : p + length (definedText S cs) ≤ length (replicate {A = ℕ} n 0)
+        → take (p + length (definedText S cs)) (take p (replicate n 0) ++ definedText S cs ++ drop (p + length (definedText S cs)) (replicate n 0)) ≡ replicate p 0 ++ definedText S cs
     before k =
         rw (take-zeros p n inside)
-        (take-at (replicate p 0 ++ definedText f cs) (drop (p + length (definedText f cs)) (replicate n 0)) (p + length (definedText f cs)) (simp (length-append, length-replicate)))
+        (take-at (replicate p 0 ++ definedText S cs) (drop (p + length (definedText S cs)) (replicate n 0)) (p + length (definedText S cs)) (simp (length-append, length-replicate)))

@@ -2,12 +2,11 @@
 use mathlib.Core.Path.{_≡_, refl}
 use mathlib.Core.List.{List, [], _∷_}
 use Prim.Native.Nat.{ℕ}
-use Rattle.formatting.specs.Flags.{defaultFlags}
 use Rattle.utf8.specs.Utf8.{continues, follow}
 use Rattle.pwrapper.specs.Digits.{digitText, digits, digitsIn}
 use Rattle.str_writer.specs.Value.{textOf, inputFault, cutFault, leaves}
 use Rattle.str_writer.specs.Write.{placed}
-use Rattle.agreement.proofs.Known.{sheet}
+use Rattle.calls.proofs.Known.{plain, sheet}
 use Rattle.fields.specs.Fields.{bytes, same, fields}
 use Rattle.fields.specs.Decimal.{readFrom, isShortest}
 use Rattle.fields.specs.Hex.{isHex, hexBytes, hexPairs}
@@ -25,6 +24,6 @@ pub shown : printed input ≡ bytes "2,0,1,0,1\n3,0,7,0,7\n4,0,8,0,8\n5,0,10,0,1
 unfolding textOf inputFault cutFault leaves placed continues follow digitText digits digitsIn same fields readFrom isShortest isHex hexBytes hexPairs formatOf digitsOf layoutOf beginOf typeOf oneField twoFields openNamed threeFields callOfLine rowText endLine linesOf
 shown = refl
 
-pub is-sheet : SheetOf input 16 0 defaultFlags sheet
+pub is-sheet : SheetOf input 16 0 plain sheet
 unfolding same fields readFrom isShortest isHex hexBytes formatOf digitsOf layoutOf beginOf typeOf oneField twoFields openNamed threeFields callOfLine linesOf
 is-sheet = record { first = bytes "begin,16,0,dec,upper,plain"; later = bytes "open,struct,50" ∷ bytes "field,78" ∷ bytes "num,u8,7" ∷ bytes "finish" ∷ []; lines = refl; begins = refl; calls = refl }

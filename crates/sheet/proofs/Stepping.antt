@@ -3,11 +3,11 @@ use mathlib.Core.Bool.{Bool, true, false}
 use mathlib.Core.Option.{Option, none, some}
 use mathlib.Core.Path.{_≡_, refl, ap, sym, _∙_}
 use mathlib.Core.List.{List, [], _∷_}
-use Prim.Native.Nat.{ℕ, zero, suc, _≤_}
+use Prim.Native.Nat.{ℕ, zero, suc, _%_, _≤_}
 use native.Mathlib.Omega.{arith}
 use lib.ListN.{length, take}
-use Rattle.agreement.specs.Call.{Call}
-use Rattle.agreement.specs.Model.{numberIn, Mode, Out, step}
+use Rattle.calls.specs.Call.{Call}
+use Rattle.calls.specs.Model.{numberIn, Mode, Out, step}
 use Rattle.str_writer.specs.declared.piece.Written.{Written}
 use Rattle.str_writer.specs.Write.{outcome, put}
 use Rattle.writer_backend.specs.declared.pieces.WriterBackend.{WriterBackend}
@@ -15,7 +15,7 @@ use Rattle.writer_backend.specs.Output.{asMode, modeOf}
 use Rattle.formatter.specs.declared.head.Head.{Head}
 use Rattle.formatter.specs.declared.head.HeadStep.{HeadStep}
 use Rattle.formatter.specs.View.{view, viewOut}
-use Rattle.encoded_call.specs.Encoding.{stepOr}
+use Rattle.formatter.specs.Calls.{stepOr}
 use Rattle.sheet.specs.declared.Sheet as code
 use Rattle.sheet.specs.Sheet.{Sheet, rowText, rowOf, badText, stepped}
 use Rattle.sheet.specs.SheetView.{sheetOf, isSome, Step, steppedOf, stepping, LineAnswer, answering}
@@ -26,7 +26,7 @@ number-of (suc t) n = refl
 
 -- the number of a mode is its total or cursor
 pub number-in : (m : WriterBackend) → numberIn (modeOf m) ≡ m .number
-number-in m = number-of (m .counting) (m .number)
+number-in m = number-of (m .mode % 2) (m .number)
 
 pub empty : (l : List ℕ) → length l ≡ 0 → l ≡ []
 empty [] h = refl

@@ -19,7 +19,7 @@ printedFrom k S (l ∷ ls) = let o = stepped k S (callOfLine l) in o .text ++ co
 abbrev pub printedAfter : Begin → List (List ℕ) → List ℕ
 printedAfter Bad ls = badText 1
 printedAfter BadCursor ls = refusedText
-printedAfter (Fresh n p f) ls = printedFrom 2 (freshSheet (replicate n 0) p f) ls
+printedAfter (Fresh n p f) ls = printedFrom 2 (freshSheet (replicate n 0) p (record { flags = f })) ls
 
 -- 'The call sheet': empty input prints nothing
 abbrev pub printedLines : List (List ℕ) → List ℕ

@@ -4,9 +4,9 @@ use mathlib.Core.List.{List, [], _∷_, _++_}
 use mathlib.Core.Option.{Option, none, some}
 use Prim.Native.Nat.{ℕ, _+_, _*_}
 use lib.ListN.{take}
-use Rattle.formatting.specs.declared.flags.FormattingFlags.{FormattingFlags}
-use Rattle.agreement.specs.Call.{Call}
-use Rattle.agreement.specs.Model.{numberIn, counting, writing, State, Out, step, start}
+use Rattle.calls.specs.declared.Settings.{Settings}
+use Rattle.calls.specs.Call.{Call}
+use Rattle.calls.specs.Model.{numberIn, counting, writing, State, Out, step, start}
 use Rattle.fields.specs.Fields.{bytes}
 use Rattle.fields.specs.Decimal.{cell}
 use Rattle.fields.specs.Hex.{hexPairs}
@@ -17,9 +17,9 @@ pub record Sheet : Type 0 where
   pub counted : State
   pub written : State
 
--- 'A nested record': fresh, flags f, a total of 0, and cursor p over the bytes b
-abbrev pub freshSheet : List ℕ → ℕ → FormattingFlags → Sheet
-freshSheet b p f = record { counted = start (counting 0) [] f; written = start (writing p) b f }
+-- 'A nested record': fresh, settings S, a total of 0, and cursor p over the bytes b
+abbrev pub freshSheet : List ℕ → ℕ → Settings → Sheet
+freshSheet b p S = record { counted = start (counting 0) [] S; written = start (writing p) b S }
 
 -- 'The call sheet': line number, counting answer, total, writing answer, cursor
 unfoldable pub rowText : Row → List ℕ

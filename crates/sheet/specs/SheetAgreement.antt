@@ -7,9 +7,9 @@ use Prim.Native.Nat.{ℕ, suc, _+_, _≤_, _<_}
 use lib.ListN.{length, take, replicate}
 use Rattle.error.specs.declared.Answer.the-variants.{NotEnoughSpace}
 use Rattle.error.specs.Answer.{numberOf}
-use Rattle.formatting.specs.declared.flags.FormattingFlags.{FormattingFlags}
-use Rattle.agreement.specs.Call.{Call}
-use Rattle.agreement.specs.Model.{numberIn, step, most}
+use Rattle.calls.specs.declared.Settings.{Settings}
+use Rattle.calls.specs.Call.{Call}
+use Rattle.calls.specs.Model.{numberIn, step, most}
 use Rattle.agreement.specs.Agreement.{AllDone, firstRefusal, Proper, definedText}
 use Rattle.sheet_line.specs.declared.begin.Begin.the-variants.{Fresh}
 use Rattle.sheet_line.specs.Begin.{beginOf}
@@ -52,30 +52,30 @@ writingAnswers [] = []
 writingAnswers (r ∷ rs) = r .«writing_answer» ∷ writingAnswers rs
 
 -- demand 3 on a sheet: the rows of a sheet of n bytes and cursor p, from line 2 on
-abbrev pub sheetRows : ℕ → ℕ → FormattingFlags → List Call → List Row
-sheetRows n p f cs = rowsFrom 2 (freshSheet (replicate n 0) p f) cs
+abbrev pub sheetRows : ℕ → ℕ → Settings → List Call → List Row
+sheetRows n p S cs = rowsFrom 2 (freshSheet (replicate n 0) p S) cs
 
 -- demand 3 on a sheet: the input is a sheet without `bad`: its first line begins a run, and each later line is a call
-pub record SheetOf (input : List ℕ) (n p : ℕ) (f : FormattingFlags) (cs : List Call) : Type 0 where
+pub record SheetOf (input : List ℕ) (n p : ℕ) (S : Settings) (cs : List Call) : Type 0 where
   pub first : List ℕ
   pub later : List (List ℕ)
   pub lines : linesOf input ≡ first ∷ later
-  pub begins : beginOf first ≡ Fresh n p f
+  pub begins : beginOf first ≡ Fresh n p (S .flags)
   pub calls : map callOfLine later ≡ map some cs
 
 -- demand 3 on a sheet: it prints a row for each call, then the last line; every answer is 0 exactly when the text fits; and then the last line shows the length of the defined text, the cursor past it, and after the first p bytes the defined text; in either case every counting answer is 0, the total is that length and the first p bytes are as they were, and where the text does not fit, the first writing refusal is 1
-pub record Shows (input : List ℕ) (n p : ℕ) (f : FormattingFlags) (cs : List Call) : Type 0 where
-  pub rows : printed input ≡ rowsText (sheetRows n p f cs) ++ endText (sheetAfter (freshSheet (replicate n 0) p f) cs)
-  pub exactly : AllZero (sheetRows n p f cs) ↔ (p + length (definedText f cs) ≤ n)
-  pub last : p + length (definedText f cs) ≤ n
-      → endText (sheetAfter (freshSheet (replicate n 0) p f) cs) ≡ endLine (length (definedText f cs)) (p + length (definedText f cs)) (replicate p 0 ++ definedText f cs)
-  pub counts : AllDone (countingAnswers (sheetRows n p f cs))
-  pub total : numberIn (sheetAfter (freshSheet (replicate n 0) p f) cs .counted .output .mode) ≡ length (definedText f cs)
-  pub refused : n < p + length (definedText f cs) → firstRefusal (writingAnswers (sheetRows n p f cs)) ≡ numberOf NotEnoughSpace
-  pub before : take p (sheetAfter (freshSheet (replicate n 0) p f) cs .written .output .bytes) ≡ replicate p 0
+pub record Shows (input : List ℕ) (n p : ℕ) (S : Settings) (cs : List Call) : Type 0 where
+  pub rows : printed input ≡ rowsText (sheetRows n p S cs) ++ endText (sheetAfter (freshSheet (replicate n 0) p S) cs)
+  pub exactly : AllZero (sheetRows n p S cs) ↔ (p + length (definedText S cs) ≤ n)
+  pub last : p + length (definedText S cs) ≤ n
+      → endText (sheetAfter (freshSheet (replicate n 0) p S) cs) ≡ endLine (length (definedText S cs)) (p + length (definedText S cs)) (replicate p 0 ++ definedText S cs)
+  pub counts : AllDone (countingAnswers (sheetRows n p S cs))
+  pub total : numberIn (sheetAfter (freshSheet (replicate n 0) p S) cs .counted .output .mode) ≡ length (definedText S cs)
+  pub refused : n < p + length (definedText S cs) → firstRefusal (writingAnswers (sheetRows n p S cs)) ≡ numberOf NotEnoughSpace
+  pub before : take p (sheetAfter (freshSheet (replicate n 0) p S) cs .written .output .bytes) ≡ replicate p 0
 
 -- demand 3 on a sheet: for every sheet without `bad` whose run is proper
 abbrev pub SheetAgrees : Type 0
 SheetAgrees =
-    (input : List ℕ) (n p : ℕ) (f : FormattingFlags) (cs : List Call) → SheetOf input n p f cs → Proper f cs →
-    length (definedText f cs) ≤ most → Shows input n p f cs
+    (input : List ℕ) (n p : ℕ) (S : Settings) (cs : List Call) → SheetOf input n p S cs → Proper S cs →
+    length (definedText S cs) ≤ most → Shows input n p S cs

@@ -3,10 +3,10 @@ use mathlib.Core.Bool.{Bool, true, false}
 use mathlib.Core.List.{List, []}
 use mathlib.Core.Option.{Option, none, some}
 use Prim.Native.Nat.{ℕ}
-use Rattle.agreement.specs.Call.{Call}
+use Rattle.calls.specs.Call.{Call}
 use Rattle.str_writer.specs.Write.{Outcome, outcome, put}
 use Rattle.formatter.specs.View.{view}
-use Rattle.agreement.specs.Model.{step}
+use Rattle.calls.specs.Model.{step}
 use Rattle.sheet.specs.Sheet.{Sheet, rowOf, stepped}
 use Rattle.sheet.specs.declared.print.Row.{Row}
 use Rattle.sheet.specs.declared.Stepped as code-step

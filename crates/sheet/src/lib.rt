@@ -12,13 +12,13 @@ ghost use Rattle.sheet_line.specs.Line.{callOfLine};
 ghost use Rattle.sheet_line.specs.Reading.{textIn};
 ghost use Rattle.sheet.specs.Sheet.{freshSheet, maxRow, endText, maxEnd, stepped};
 ghost use mathlib.Core.Option.{some};
-ghost use Rattle.agreement.specs.Call.{Call};
-ghost use Rattle.encoded_call.specs.Encoding.{callOf};
+ghost use Rattle.calls.specs.Call.{Call};
+ghost use Rattle.formatter.specs.Calls.{callOf};
 ghost use Rattle.sheet.specs.SheetView.{sheetOf, isSome, steppedOf, stepping, answered, answering};
-use encoded_call::Op;
-use encoded_call::call;
+use calls::Settings;
 use formatter::Head;
-use formatting::FormattingFlags;
+use formatter::Op;
+use formatter::call;
 use print::Row;
 pub use print::put_bad;
 use print::put_end;
@@ -42,21 +42,13 @@ pub struct Answered {
     pub print: Written,
 }
 
-// Both runs fresh, with a cursor and flags.
-pub fn fresh(at: usize, flags: FormattingFlags) -> Sheet
-    ensures { λ r. ⌜ ((s t b : List ℕ) → sheetOf r s t b ≡ freshSheet b at flags) ⌝ }
+// Both runs fresh, with a cursor and settings.
+pub fn fresh(at: usize, settings: Settings) -> Sheet
+    ensures { λ r. ⌜ ((s t b : List ℕ) → sheetOf r s t b ≡ freshSheet b at settings) ⌝ }
 {
-    let counting = WriterBackend {
-        counting: 1,
-        number: 0,
-    };
-    let writing = WriterBackend {
-        counting: 0,
-        number: at,
-    };
     Sheet {
-        counted: Head::new(counting, flags),
-        written: Head::new(writing, flags),
+        counted: Head::new(WriterBackend::counting(0), settings),
+        written: Head::new(WriterBackend::writing(at), settings),
     }
 }
 

@@ -13,7 +13,7 @@ use mir.Syntax.{w64}
 use mir.Val.{toZ}
 use mir.Facts.{toZ-neg}
 use borrow.Author.Tests.{leb-true, eq-eqb, ne-eqb}
-use Rattle.agreement.specs.Call.{Call}
+use Rattle.calls.specs.Call.{Call}
 use Rattle.value_writes.specs.declared.Width.{Width}
 use Rattle.value_writes.specs.Values.{bitsOf}
 use Rattle.encoded_call.proofs.Decoding.{half}

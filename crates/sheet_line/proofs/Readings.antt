@@ -9,15 +9,15 @@ use lib.Dec.{leb}
 use lib.ListN.{length, take}
 use lib.Seq.{take-append-seam}
 use borrow.Author.Tests.{le-leb}
-use Rattle.agreement.specs.declared.Kind.the-variants.{Set}
-use Rattle.agreement.specs.declared.Kind.the-variants as kind
-use Rattle.agreement.specs.Call.{Call, opens, place, item, entry, value, finish}
+use Rattle.calls.specs.declared.Kind.the-variants.{Set}
+use Rattle.calls.specs.declared.Kind.the-variants as kind
+use Rattle.calls.specs.Call.{Call, opens, place, item, entry, value, finish}
 use Rattle.str_writer.specs.Value.{Value, integer, char, display, debug}
 use Rattle.str_writer.specs.Write.{splice}
 use Rattle.str_writer.proofs.Splice.{splice-nil}
-use Rattle.encoded_call.specs.declared.Op.{Op}
-use Rattle.encoded_call.specs.declared.Op.the-variants.{Nothing}
-use Rattle.encoded_call.specs.Encoding.{callOf}
+use Rattle.formatter.specs.declared.dispatch.Op.{Op}
+use Rattle.formatter.specs.declared.dispatch.Op.the-variants.{Nothing}
+use Rattle.formatter.specs.Calls.{callOf}
 use Rattle.fields.specs.Fields.{bytes, same}
 use Rattle.fields.specs.Decimal.{decimalOf, upTo}
 use Rattle.fields.specs.declared.hex.HexBytes.{HexBytes}

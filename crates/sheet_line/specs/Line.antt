@@ -6,10 +6,10 @@ use Prim.Native.Nat.{ℕ, zero, suc, _-_, _^_}
 use lib.Dec.{eqb, ltb}
 use lib.IntN.{ℤ, pos, negsuc}
 use lib.ListN.{length}
-use Rattle.agreement.specs.declared.Kind.{Kind}
-use Rattle.agreement.specs.declared.Kind.the-variants.{Struct, Tuple, Set}
-use Rattle.agreement.specs.declared.Kind.the-variants as kind
-use Rattle.agreement.specs.Call.{Call, opens, place, value, finish, field, item, entry}
+use Rattle.calls.specs.declared.Kind.{Kind}
+use Rattle.calls.specs.declared.Kind.the-variants.{Struct, Tuple, Set}
+use Rattle.calls.specs.declared.Kind.the-variants as kind
+use Rattle.calls.specs.Call.{Call, opens, place, value, finish, field, item, entry}
 use Rattle.str_writer.specs.Value.{integer, char, str, display, debug, whole}
 use Rattle.value_writes.specs.declared.Width.the-variants.{W8, W16, W32, W64}
 use Rattle.value_writes.specs.Values.{bitsOf}

@@ -3,10 +3,10 @@ use mathlib.Core.List.{List, []}
 use mathlib.Core.Option.{Option, none, some}
 use Prim.Native.Nat.{ℕ}
 use lib.ListN.{length, take}
-use Rattle.agreement.specs.Call.{Call, opens, place, value, sub, endsub, finish, placeName, field}
+use Rattle.calls.specs.Call.{Call, opens, place, value, sub, endsub, finish, placeName, field}
 use Rattle.str_writer.specs.Value.{Value, integer, char, str, ascii, repeated, whole}
 use Rattle.str_writer.specs.Write.{splice}
-use Rattle.encoded_call.specs.Encoding.{callOf}
+use Rattle.formatter.specs.Calls.{callOf}
 use Rattle.value_writes.specs.Values.{formOf}
 use Rattle.sheet_line.specs.declared.Parsed.{Parsed}
 use Rattle.sheet_line.specs.declared.texts.TextCall.{TextCall}

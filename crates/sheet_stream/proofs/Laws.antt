@@ -67,7 +67,7 @@ pub begin-refused : (l : List ℕ) → beginOf l ≡ BadCursor → (ls : List (L
 begin-refused l e ls = rw e
 
 -- a line that begins the runs
-pub answers-fresh : (l out : List ℕ) (at n p : ℕ) (f : FormattingFlags) (T : Stage) → beginOf l ≡ Fresh n p f → T ≡ later 2 (freshSheet (replicate n 0) p f) → Answers first T l out out at at
+pub answers-fresh : (l out : List ℕ) (at n p : ℕ) (f : FormattingFlags) (T : Stage) → beginOf l ≡ Fresh n p f → T ≡ later 2 (freshSheet (replicate n 0) p (record { flags = f })) → Answers first T l out out at at
 answers-fresh l out at n p f T e q = record { prints = λ ls. rw (e, q); short = omega arith }
 
 -- `begin` has n at most 4,096

@@ -48,7 +48,7 @@ from-clipped k S (l ∷ ls) = rw (clipped-line callOfLine none long-call l, from
 after-clipped : (x : Begin) (ls : List (List ℕ)) → printedAfter x (clipped maxLine ls) ≡ printedAfter x ls
 after-clipped Bad ls = refl
 after-clipped BadCursor ls = refl
-after-clipped (Fresh n p f) ls = from-clipped 2 (freshSheet (replicate n 0) p f) ls
+after-clipped (Fresh n p f) ls = from-clipped 2 (freshSheet (replicate n 0) p (record { flags = f })) ls
 
 lines-clipped : (ls : List (List ℕ)) → printedLines (clipped maxLine ls) ≡ printedLines ls
 lines-clipped [] = refl

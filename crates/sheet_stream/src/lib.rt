@@ -12,6 +12,7 @@ ghost use Rattle.sheet.specs.Sheet.{maxRow, maxEnd};
 ghost use Rattle.sheet.specs.SheetView.{sheetOf};
 ghost use Rattle.sheet_stream.specs.Left.{first, later, left, stageOf, Answers};
 ghost use Rattle.sheet_stream.specs.Step.{atOf, Sized, Onward, Ready, stoppedOf, haltedOf, Halts, Stepped, isDue, afterWrite, fedOf};
+use calls::Settings;
 use formatting::FormattingFlags;
 use lines::MAX_LINE;
 use lines::Reader;
@@ -121,7 +122,7 @@ fn first_line(h: State, l: &[u8], buf: &mut [u8], out: &mut [u8], at: usize) -> 
                 state: State {
                     line: 2,
                     size,
-                    sheet: fresh(cursor, flags),
+                    sheet: fresh(cursor, Settings { flags }),
                     going: true,
                 },
                 at,
@@ -246,12 +247,15 @@ pub fn start() -> Stream
     ensures { λ r. ⌜ ((space c w b out : List ℕ) → atOf r space c w b out ≡ begins first) ⌝ }
     ensures { λ r. ⌜ ((b out : List ℕ) → maxSize ≤ length b → maxEnd maxSize ≤ length out → Ready r b out) ⌝ }
 {
+    let settings = Settings {
+        flags: FormattingFlags::DEFAULT,
+    };
     Stream {
         reader: Reader::new(),
         state: State {
             line: 1,
             size: 0,
-            sheet: fresh(0, FormattingFlags::DEFAULT),
+            sheet: fresh(0, settings),
             going: true,
         },
         printed: 0,

@@ -6,7 +6,8 @@ use Rattle.error.specs.declared.Answer.the-variants.{WrongCall}
 use Rattle.error.specs.Answer.{numberOf}
 use Rattle.formatting.specs.declared.flags.FormattingFlags.{FormattingFlags}
 use Rattle.formatting.specs.FlagsAsNumber.{areFlags, flagsOf}
-use Rattle.agreement.specs.Model.{Mode, PieceOutcome, to, hold, beyond}
+use Rattle.calls.specs.Call.{hold}
+use Rattle.calls.specs.Model.{Mode, PieceOutcome, to, beyond}
 use Rattle.writer_backend.specs.declared.pieces.WriterBackend.{WriterBackend}
 
 -- 'For senders': 12 and above are no flags: what a call does by the flags that a number is, or r where it is none
@@ -19,4 +20,4 @@ wrongFlags m b = to m b (hold (beyond m b) (numberOf WrongCall))
 
 -- Document 01, 'A nested record': counting from a total
 abbrev pub from : ℕ → WriterBackend
-from n = record { counting = 1; number = n }
+from n = record { mode = 1; number = n }

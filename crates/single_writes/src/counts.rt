@@ -1,16 +1,17 @@
 // Single values counted: the length of a value added to a total, which is kept where the answer is a refusal.
 ghost use mathlib.Core.Path.{_≡_};
-ghost use mathlib.Core.List.{[]};
+ghost use mathlib.Core.List.{List, []};
+ghost use Prim.Native.Nat.{ℕ};
 ghost use lib.IntN.{pos};
+ghost use lib.ListN.{length};
 ghost use Rattle.formatting.specs.Flags.{defaultFlags};
 ghost use Rattle.str_writer.specs.Value.{integer, char, str, display, debug, whole};
-ghost use Rattle.agreement.specs.Model.{to, counting};
-ghost use Rattle.writer_backend.specs.Output.{countIn};
+ghost use Rattle.calls.specs.Model.{to, counting, putIn};
 ghost use Rattle.value_writes.specs.Values.{valueOut};
 ghost use Rattle.single_writes.specs.ByFlags.{byFlags, wrongFlags, from};
 use char_encoding::char_debug_len;
 use char_encoding::char_display_len;
-use char_encoding::is_char;
+use error::Answer;
 use formatting::flags_of;
 use pwrapper::compute_debug_len_i8;
 use pwrapper::compute_debug_len_i16;
@@ -29,17 +30,18 @@ use pwrapper::compute_display_len_u16;
 use pwrapper::compute_display_len_u32;
 use pwrapper::compute_display_len_u64;
 use pwrapper::compute_utf8_debug_len;
-use utf8::is_utf8;
+use str_writer::char_fault;
+use str_writer::str_fault;
 
 // Adds a length to a total, or gives 6 where that would pass 2^64 - 1.
 fn add(total: &mut usize, len: usize) -> u8
-    ensures { λ r. ⌜ to (counting (now (total .exit))) [] r ≡ countIn (from (now (total .entry))) [] len ⌝ }
+    ensures { λ r. ⌜ ((t : List ℕ) → len ≡ length t → to (counting (now (total .exit))) [] r ≡ putIn (counting (now (total .entry))) [] t (λ n. [])) ⌝ }
 {
     if len <= usize::MAX - *total {
         *total += len;
-        return 0;
+        return Answer::Done.number();
     }
-    6
+    Answer::CountTooLarge.number()
 }
 
 // Counts a u8 in decimal.
@@ -56,7 +58,7 @@ pub extern "C" fn single_count_u8_debug(total: &mut usize, x: u8, flags: u64) ->
     ensures { λ r. ⌜ to (counting (now (total .exit))) [] r ≡ byFlags flags (wrongFlags (counting (now (total .entry))) []) (λ f. valueOut (from (now (total .entry))) [] f (integer debug 8 (pos x))) ⌝ }
 {
     if flags >= 12 {
-        return 8;
+        return Answer::WrongCall.number();
     }
     add(total, compute_debug_len_u8(x, flags_of(flags)))
 }
@@ -75,7 +77,7 @@ pub extern "C" fn single_count_u16_debug(total: &mut usize, x: u16, flags: u64) 
     ensures { λ r. ⌜ to (counting (now (total .exit))) [] r ≡ byFlags flags (wrongFlags (counting (now (total .entry))) []) (λ f. valueOut (from (now (total .entry))) [] f (integer debug 16 (pos x))) ⌝ }
 {
     if flags >= 12 {
-        return 8;
+        return Answer::WrongCall.number();
     }
     add(total, compute_debug_len_u16(x, flags_of(flags)))
 }
@@ -94,7 +96,7 @@ pub extern "C" fn single_count_u32_debug(total: &mut usize, x: u32, flags: u64) 
     ensures { λ r. ⌜ to (counting (now (total .exit))) [] r ≡ byFlags flags (wrongFlags (counting (now (total .entry))) []) (λ f. valueOut (from (now (total .entry))) [] f (integer debug 32 (pos x))) ⌝ }
 {
     if flags >= 12 {
-        return 8;
+        return Answer::WrongCall.number();
     }
     add(total, compute_debug_len_u32(x, flags_of(flags)))
 }
@@ -113,7 +115,7 @@ pub extern "C" fn single_count_u64_debug(total: &mut usize, x: u64, flags: u64) 
     ensures { λ r. ⌜ to (counting (now (total .exit))) [] r ≡ byFlags flags (wrongFlags (counting (now (total .entry))) []) (λ f. valueOut (from (now (total .entry))) [] f (integer debug 64 (pos x))) ⌝ }
 {
     if flags >= 12 {
-        return 8;
+        return Answer::WrongCall.number();
     }
     add(total, compute_debug_len_u64(x, flags_of(flags)))
 }
@@ -132,7 +134,7 @@ pub extern "C" fn single_count_i8_debug(total: &mut usize, x: i8, flags: u64) ->
     ensures { λ r. ⌜ to (counting (now (total .exit))) [] r ≡ byFlags flags (wrongFlags (counting (now (total .entry))) []) (λ f. valueOut (from (now (total .entry))) [] f (integer debug 8 x)) ⌝ }
 {
     if flags >= 12 {
-        return 8;
+        return Answer::WrongCall.number();
     }
     add(total, compute_debug_len_i8(x, flags_of(flags)))
 }
@@ -151,7 +153,7 @@ pub extern "C" fn single_count_i16_debug(total: &mut usize, x: i16, flags: u64) 
     ensures { λ r. ⌜ to (counting (now (total .exit))) [] r ≡ byFlags flags (wrongFlags (counting (now (total .entry))) []) (λ f. valueOut (from (now (total .entry))) [] f (integer debug 16 x)) ⌝ }
 {
     if flags >= 12 {
-        return 8;
+        return Answer::WrongCall.number();
     }
     add(total, compute_debug_len_i16(x, flags_of(flags)))
 }
@@ -170,7 +172,7 @@ pub extern "C" fn single_count_i32_debug(total: &mut usize, x: i32, flags: u64) 
     ensures { λ r. ⌜ to (counting (now (total .exit))) [] r ≡ byFlags flags (wrongFlags (counting (now (total .entry))) []) (λ f. valueOut (from (now (total .entry))) [] f (integer debug 32 x)) ⌝ }
 {
     if flags >= 12 {
-        return 8;
+        return Answer::WrongCall.number();
     }
     add(total, compute_debug_len_i32(x, flags_of(flags)))
 }
@@ -189,7 +191,7 @@ pub extern "C" fn single_count_i64_debug(total: &mut usize, x: i64, flags: u64) 
     ensures { λ r. ⌜ to (counting (now (total .exit))) [] r ≡ byFlags flags (wrongFlags (counting (now (total .entry))) []) (λ f. valueOut (from (now (total .entry))) [] f (integer debug 64 x)) ⌝ }
 {
     if flags >= 12 {
-        return 8;
+        return Answer::WrongCall.number();
     }
     add(total, compute_debug_len_i64(x, flags_of(flags)))
 }
@@ -199,8 +201,9 @@ pub extern "C" fn single_count_i64_debug(total: &mut usize, x: i64, flags: u64) 
 pub extern "C" fn single_count_char(total: &mut usize, c: u32) -> u8
     ensures { λ r. ⌜ to (counting (now (total .exit))) [] r ≡ valueOut (from (now (total .entry))) [] defaultFlags (char display c) ⌝ }
 {
-    if !is_char(c) {
-        return 5;
+    let fault = char_fault(c);
+    if !fault.is_done() {
+        return fault.number();
     }
     let e = char_display_len(c);
     add(total, e.len)
@@ -211,8 +214,9 @@ pub extern "C" fn single_count_char(total: &mut usize, c: u32) -> u8
 pub extern "C" fn single_count_char_debug(total: &mut usize, c: u32) -> u8
     ensures { λ r. ⌜ to (counting (now (total .exit))) [] r ≡ valueOut (from (now (total .entry))) [] defaultFlags (char debug c) ⌝ }
 {
-    if !is_char(c) {
-        return 5;
+    let fault = char_fault(c);
+    if !fault.is_done() {
+        return fault.number();
     }
     let e = char_debug_len(c);
     add(total, e.len)
@@ -223,8 +227,9 @@ pub extern "C" fn single_count_char_debug(total: &mut usize, c: u32) -> u8
 pub extern "C" fn single_count_str(total: &mut usize, s: &[u8]) -> u8
     ensures { λ r. ⌜ to (counting (now (total .exit))) [] r ≡ valueOut (from (now (total .entry))) [] defaultFlags (str display (now (s .entry)) (whole (now (s .entry)))) ⌝ }
 {
-    if !is_utf8(s) {
-        return 4;
+    let fault = str_fault(s);
+    if !fault.is_done() {
+        return fault.number();
     }
     add(total, s.len())
 }
@@ -234,13 +239,14 @@ pub extern "C" fn single_count_str(total: &mut usize, s: &[u8]) -> u8
 pub extern "C" fn single_count_str_debug(total: &mut usize, s: &[u8]) -> u8
     ensures { λ r. ⌜ to (counting (now (total .exit))) [] r ≡ valueOut (from (now (total .entry))) [] defaultFlags (str debug (now (s .entry)) (whole (now (s .entry)))) ⌝ }
 {
-    if !is_utf8(s) {
-        return 4;
+    let fault = str_fault(s);
+    if !fault.is_done() {
+        return fault.number();
     }
     let quoted = compute_utf8_debug_len(s);
     let len = quoted.len;
     if len == 0 {
-        return 6;
+        return Answer::CountTooLarge.number();
     }
     add(total, len)
 }

@@ -9,6 +9,7 @@ ghost use Rattle.pargument.specs.declared.Integer as parts;
 ghost use Rattle.pargument.specs.Integer.{integerOf, integerDisplay, integerBits, startOf, arrayOf};
 ghost use Rattle.single_writes.specs.ByFlags.{byFlags};
 ghost use Rattle.single_writes.specs.Laid.{Laid, laid};
+use error::Answer;
 use formatting::flags_of;
 use pargument::Integer;
 use pargument::to_integer_i8;
@@ -106,7 +107,7 @@ pub extern "C" fn single_integer_binary(
     ensures { λ r. ⌜ _≡_ {A = Laid} (record { answer = r; start = now (start .exit); array = now (array .exit) }) (byFlags flags (record { answer = numberOf WrongCall; start = now (start .entry); array = now (array .entry) }) (λ f. laid 66 (binText f (integerBits (record { «is_negative» = «is_negative»; unsigned = unsigned; mask = mask }))))) ⌝ }
 {
     if flags >= 12 {
-        return 8;
+        return Answer::WrongCall.number();
     }
     let i = Integer {
         is_negative,
@@ -117,7 +118,7 @@ pub extern "C" fn single_integer_binary(
     *start = s.start;
     let digits = s.array;
     *array = digits;
-    0
+    Answer::Done.number()
 }
 
 // Lays the hexadecimal text of an integer at the end of the array; start is the place of its first byte.
@@ -133,7 +134,7 @@ pub extern "C" fn single_integer_hexadecimal(
     ensures { λ r. ⌜ _≡_ {A = Laid} (record { answer = r; start = now (start .exit); array = now (array .exit) }) (byFlags flags (record { answer = numberOf WrongCall; start = now (start .entry); array = now (array .entry) }) (λ f. laid 18 (hexText f (integerBits (record { «is_negative» = «is_negative»; unsigned = unsigned; mask = mask }))))) ⌝ }
 {
     if flags >= 12 {
-        return 8;
+        return Answer::WrongCall.number();
     }
     let i = Integer {
         is_negative,
@@ -144,7 +145,7 @@ pub extern "C" fn single_integer_hexadecimal(
     *start = s.start;
     let digits = s.array;
     *array = digits;
-    0
+    Answer::Done.number()
 }
 
 // Lays the decimal text of an integer at the end of the array, and gives the place of its first byte.

@@ -16,8 +16,10 @@ ghost use Rattle.formatting.specs.Flags.{defaultFlags};
 ghost use Rattle.str_writer.specs.Value.{integer, char, str, ascii, repeated, display, debug, whole};
 ghost use Rattle.str_writer.specs.Write.{outcome, write};
 ghost use Rattle.str_writer.specs.Truncate.{truncated, truncatedUtf8};
-ghost use Rattle.agreement.specs.Model.{to, wrote, writing, hold, beyond};
+ghost use Rattle.calls.specs.Call.{hold};
+ghost use Rattle.calls.specs.Model.{to, wrote, writing, beyond};
 ghost use Rattle.single_writes.specs.ByFlags.{byFlags, wrongFlags};
+use error::Answer;
 use formatting::flags_of;
 use integer_writes::write_i8_debug;
 use integer_writes::write_i8_display;
@@ -40,6 +42,7 @@ use quoted_writes::write_ascii_range_debug;
 use quoted_writes::write_str_debug;
 use quoted_writes::write_str_range_debug;
 use str_writer::Written;
+use str_writer::cursor_fault;
 use str_writer::truncate;
 use str_writer::truncate_utf8;
 use str_writer::write_ascii;
@@ -55,10 +58,11 @@ use utils::Range;
 fn no_flags(len: usize, cursor: usize) -> u8
     ensures { λ r. ⌜ ((b : List ℕ) → length b ≡ len → r ≡ hold (beyond (writing cursor) b) (numberOf WrongCall)) ⌝ }
 {
-    if cursor > len {
-        return 9;
+    let fault = cursor_fault(len, cursor);
+    if !fault.is_done() {
+        return fault.number();
     }
-    8
+    Answer::WrongCall.number()
 }
 
 // Leaves the cursor in its place, and gives the answer's number.

@@ -1,7 +1,7 @@
 -- The outcomes of a write, a law for each, as the writers' returns cite them.
-use mathlib.Core.Path.{_≡_, refl, sym, _∙_}
-use mathlib.Core.List.{List, []}
-use mathlib.Core.Option.{none, some}
+use mathlib.Core.Path.{_≡_, refl, _∙_}
+use mathlib.Core.List.{List, [], _∷_}
+use mathlib.Core.Option.{Option, none, some}
 use Prim.Native.Nat.{ℕ, _+_, _-_, _≤_, _<_}
 use native.Mathlib.Omega.{arith}
 use lib.ListN.{length}
@@ -10,7 +10,7 @@ use Rattle.error.specs.declared.Answer.{Answer}
 use Rattle.error.specs.declared.Answer.the-variants.{Done, NotEnoughSpace, BadCursor}
 use Rattle.formatting.specs.declared.flags.FormattingFlags.{FormattingFlags}
 use Rattle.str_writer.specs.Value.{Value, textOf, inputFault, cutFault, leaves}
-use Rattle.str_writer.specs.Write.{Outcome, outcome, splice, refused, placed, put, write}
+use Rattle.str_writer.specs.Write.{outcome, splice, refused, placed, cursorFault, firstOf, unless, put, write}
 use Rattle.str_writer.proofs.Splice.{splice-nil}
 
 module _ (b : List ℕ) (at : ℕ) (t : List ℕ) where
@@ -38,30 +38,11 @@ module _ (b : List ℕ) (at : ℕ) (t : List ℕ) where
   pub put-done : at ≤ length b → length t ≤ length b - at → outcome (record { at = at + length t; answer = Done }) (splice b at t) ≡ put b at t
   put-done h k = placed-done [] h k ∙ put-placed h
 
-module _ (f : FormattingFlags) (b : List ℕ) (at : ℕ) (v : Value) where
-  -- 9 before all
-  pub write-bad : length b < at → refused BadCursor b at ≡ write f b at v
-  unfolding write
-  write-bad h = simp (lt-ltb _ _ h)
-
-  module _ (h : at ≤ length b) where
-    -- then 2, 4 or 5
-    pub write-input : (a : Answer) → inputFault v ≡ some a → refused a b at ≡ write f b at v
-    unfolding write
-    write-input a e = simp (le-ltb _ _ h, e)
-
-    module _ (e : inputFault v ≡ none) where
-      -- then 3
-      pub write-cut : (a : Answer) → cutFault v ≡ some a → refused a b at ≡ write f b at v
-      unfolding write
-      write-cut a k = simp (le-ltb _ _ h, e, k)
-
-      module _ (k : cutFault v ≡ none) where
-        -- then 1 or 0
-        pub write-placed : placed b at (textOf f v) (leaves (length b - at) v) ≡ write f b at v
-        unfolding write
-        write-placed = simp (le-ltb _ _ h, e, k)
-
-        -- what leaves nothing is put as a piece
-        pub write-put : leaves (length b - at) v ≡ [] → put b at (textOf f v) ≡ write f b at v
-        write-put n = sym (put-placed b at (textOf f v) h) ∙ rw (← n) write-placed
+-- what meets no fault but 9 and leaves nothing is put as a piece
+pub put-write : (f : FormattingFlags) (b : List ℕ) (at : ℕ) (v : Value) → inputFault v ≡ none → cutFault v ≡ none → leaves (length b - at) v ≡ [] → put b at (textOf f v) ≡ write f b at v
+unfolding put write
+put-write f b at v e k n = rw (e, k, n) (alone (cursorFault b at))
+  where
+    alone : (c : Option Answer) → unless c b at (placed b at (textOf f v) []) ≡ unless (firstOf (c ∷ none ∷ none ∷ [])) b at (placed b at (textOf f v) [])
+    alone none = refl
+    alone (some a) = refl

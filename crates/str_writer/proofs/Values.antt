@@ -1,4 +1,4 @@
--- What a value's input and range meet, and its text, a law for each, in display and debug form.
+-- What a value's input and range meet, a law for each, and the texts of parts, characters and repeated characters.
 use mathlib.Core.Bool.{true, false, _||_, and-false, or-true, false≢true}
 use mathlib.Core.Logic.{dite}
 use mathlib.Core.Option.{none, some}
@@ -12,7 +12,7 @@ use lib.Dec.{ltb}
 use lib.ListN.{length, take, drop, replicate, length-append, length-replicate}
 use lib.Seq.{slice, take-add, take-at, drop-at, take-length, length-take-le}
 use borrow.Author.Tests.{lt-ltb, le-ltb, eq-eqb}
-use Rattle.error.specs.declared.Answer.the-variants.{Done, NotEnoughSpace, NotAscii, NotOnCharBoundary, NotUtf8, NotAChar}
+use Rattle.error.specs.declared.Answer.the-variants.{Done, NotAscii, NotOnCharBoundary, NotUtf8, NotAChar}
 use Rattle.formatting.specs.declared.flags.FormattingFlags.{FormattingFlags}
 use Rattle.utf8.specs.Utf8.{wellFormed, continues, isScalar}
 use Rattle.utf8.proofs.Grammar.{none-low, broken}
@@ -21,10 +21,10 @@ use Rattle.utils.specs.Text.{saturated, part, isBoundary}
 use Rattle.ascii_str.specs.declared.AsciiStr.the-variants.{Ascii, NotAsciiError}
 use Rattle.ascii_str.specs.Ascii.{asciiFrom}
 use Rattle.char_encoding.specs.declared.FmtChar.{FmtChar}
-use Rattle.char_encoding.specs.Char.{charDisplay, charDebug, fmtChar}
-use Rattle.str_writer.specs.Value.{Form, display, debug, str, ascii, char, repeated, whole, stringText, stringLeaves, textOf, inputFault, cutFault, leaves}
-use Rattle.str_writer.specs.Write.{outcome, splice, refused, placed, put, write}
-use Rattle.str_writer.proofs.Outcomes.{put-placed, put-short, put-done, write-placed, write-put}
+use Rattle.char_encoding.specs.Char.{fmtChar}
+use Rattle.str_writer.specs.Value.{Form, str, ascii, char, repeated, whole, textOf, inputFault, cutFault, leaves}
+use Rattle.str_writer.specs.Write.{outcome, splice, put, write}
+use Rattle.str_writer.proofs.Outcomes.{put-done, put-write}
 
 -- the whole of a text
 whole-end : (s : List ℕ) → saturated s (whole s) .end ≡ length s
@@ -88,14 +88,6 @@ module _ (m : Form) (s : List ℕ) (r : Range) where
   unfolding cutFault
   str-uncut e k = rw (e, k)
 
-  pub str-text : (f : FormattingFlags) → textOf f (str m s r) ≡ stringText m (part s r)
-  unfolding textOf
-  str-text f = refl
-
-  pub str-leaves : (n : ℕ) → leaves n (str m s r) ≡ stringLeaves m n (part s r)
-  unfolding leaves
-  str-leaves n = refl
-
   pub ascii-fault : (i : ℕ) → asciiFrom 0 s ≡ NotAsciiError i → inputFault (ascii m s r) ≡ some NotAscii
   unfolding inputFault
   ascii-fault i e = rw e
@@ -107,14 +99,6 @@ module _ (m : Form) (s : List ℕ) (r : Range) where
   pub ascii-uncut : cutFault (ascii m s r) ≡ none
   unfolding cutFault
   ascii-uncut = refl
-
-  pub ascii-text : (f : FormattingFlags) → textOf f (ascii m s r) ≡ stringText m (part s r)
-  unfolding textOf
-  ascii-text f = refl
-
-  pub ascii-leaves : (n : ℕ) → leaves n (ascii m s r) ≡ stringLeaves m n (part s r)
-  unfolding leaves
-  ascii-leaves n = refl
 
 -- the whole of a well-formed text cuts no character
 pub whole-uncut : (m : Form) (s : List ℕ) → wellFormed s ≡ true → cutFault (str m s (whole s)) ≡ none
@@ -135,19 +119,6 @@ module _ (m : Form) (c : ℕ) where
   pub char-uncut : cutFault (char m c) ≡ none
   unfolding cutFault
   char-uncut = refl
-
-  pub char-leaves : (n : ℕ) → leaves n (char m c) ≡ []
-  unfolding leaves
-  char-leaves n = refl
-
-module _ (f : FormattingFlags) (c : ℕ) where
-  pub display-text : textOf f (char display c) ≡ charDisplay c
-  unfolding textOf
-  display-text = refl
-
-  pub debug-text : textOf f (char debug c) ≡ charDebug c
-  unfolding textOf
-  debug-text = refl
 
 -- a character's text in its array
 module _ (c : ℕ) (t : List ℕ) (q : FmtChar) (e : q ≡ fmtChar c t) where
@@ -174,42 +145,16 @@ module _ (c n : ℕ) where
   unfolding leaves
   repeated-leaves k = refl
 
--- a value that meets no fault: its text, or what it leaves
+-- the repeated character is put as a piece
+pub repeated-write : (f : FormattingFlags) (b : List ℕ) (at c n : ℕ) → put b at (replicate n (c % 128)) ≡ write f b at (repeated c n)
+repeated-write f b at c n = rw (← repeated-text c n f) (put-write f b at (repeated c n) (repeated-fine c n) (repeated-uncut c n) (repeated-leaves c n (length b - at)))
+
 module _ (f : FormattingFlags) (b : List ℕ) (at : ℕ) (h : at ≤ length b) where
-  module _ (m : Form) (s : List ℕ) (r : Range) where
-    pub str-placed : wellFormed s ≡ true → cutFault (str m s r) ≡ none
-        → placed b at (stringText m (part s r)) (stringLeaves m (length b - at) (part s r)) ≡ write f b at (str m s r)
-    str-placed e k = rw (← str-text m s r f, ← str-leaves m s r) (write-placed f b at (str m s r) h (str-fine m s r e) k)
-
-    pub ascii-placed : asciiFrom 0 s ≡ Ascii
-        → placed b at (stringText m (part s r)) (stringLeaves m (length b - at) (part s r)) ≡ write f b at (ascii m s r)
-    ascii-placed e = rw (← ascii-text m s r f, ← ascii-leaves m s r) (write-placed f b at (ascii m s r) h (ascii-fine m s r e) (ascii-uncut m s r))
-
-  module _ (s : List ℕ) (r : Range) where
-    pub str-put : wellFormed s ≡ true → cutFault (str display s r) ≡ none → put b at (part s r) ≡ write f b at (str display s r)
-    str-put e k = sym (put-placed b at (part s r) h) ∙ str-placed display s r e k
-
-    pub ascii-put : asciiFrom 0 s ≡ Ascii → put b at (part s r) ≡ write f b at (ascii display s r)
-    ascii-put e = sym (put-placed b at (part s r) h) ∙ ascii-placed display s r e
-
-  char-put : (m : Form) (c : ℕ) → isScalar c ≡ true → put b at (textOf f (char m c)) ≡ write f b at (char m c)
-  char-put m c e = write-put f b at (char m c) h (char-fine m c e) (char-uncut m c) (char-leaves m c (length b - at))
-
-  module _ (c : ℕ) (e : isScalar c ≡ true) where
-    pub display-put : put b at (charDisplay c) ≡ write f b at (char display c)
-    display-put = rw (← display-text f c) (char-put display c e)
-
-    pub debug-put : put b at (charDebug c) ≡ write f b at (char debug c)
-    debug-put = rw (← debug-text f c) (char-put debug c e)
-
   pub repeated-put : (c n : ℕ) → put b at (replicate n (c % 128)) ≡ write f b at (repeated c n)
-  repeated-put c n = rw (← repeated-text c n f) (write-put f b at (repeated c n) h (repeated-fine c n) (repeated-uncut c n) (repeated-leaves c n (length b - at)))
+  repeated-put c n = repeated-write f b at c n
 
   -- the repeated character, by its count
   module _ (c n : ℕ) where
-    pub repeated-short : length b - at < n → refused NotEnoughSpace b at ≡ write f b at (repeated c n)
-    repeated-short k = put-short b at (replicate n (c % 128)) h (rw length-replicate k) ∙ repeated-put c n
-
     pub repeated-done : n ≤ length b - at → outcome (record { at = at + n; answer = Done }) (splice b at (replicate n (c % 128))) ≡ write f b at (repeated c n)
     repeated-done k =
         let t = replicate n (c % 128) in

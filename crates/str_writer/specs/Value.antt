@@ -55,11 +55,15 @@ abbrev pub asciiFault : AsciiStr → Option Answer
 asciiFault Ascii = none
 asciiFault (NotAsciiError i) = some NotAscii
 
+-- 'The answer to a call', 4: a text that is not UTF-8
+abbrev pub textFault : List ℕ → Option Answer
+textFault s = cond (wellFormed s) none (some NotUtf8)
+
 -- 'The answer to a call', 2, 4 and 5: what the input of a value meets
 unfoldable pub inputFault : Value → Option Answer
 inputFault (integer m k z) = none
 inputFault (char m c) = cond (isScalar c) none (some NotAChar)
-inputFault (str m s r) = cond (wellFormed s) none (some NotUtf8)
+inputFault (str m s r) = textFault s
 inputFault (ascii m s r) = asciiFault (asciiFrom 0 s)
 inputFault (repeated c n) = none
 

@@ -55,11 +55,13 @@ unless (some a) b at o = refused a b at
 unfoldable pub put : List ℕ → ℕ → List ℕ → Outcome
 put b at t = unless (cursorFault b at) b at (placed b at t [])
 
--- 'The answer to a call', order: 9, then 2, 4 or 5, then 3, then 1
+-- 'The answer to a call', order: 9, then 2, 4 or 5, then 3
+abbrev pub writeFault : List ℕ → ℕ → Value → Option Answer
+writeFault b at v = firstOf (cursorFault b at ∷ inputFault v ∷ cutFault v ∷ [])
+
+-- 'The answer to a call', order: a fault before 1
 unfoldable pub write : FormattingFlags → List ℕ → ℕ → Value → Outcome
-write f b at v =
-    unless (firstOf (cursorFault b at ∷ inputFault v ∷ cutFault v ∷ [])) b at
-    (placed b at (textOf f v) (leaves (length b - at) v))
+write f b at v = unless (writeFault b at v) b at (placed b at (textOf f v) (leaves (length b - at) v))
 
 -- 'The writer': a write keeps the text before the cursor well-formed
 abbrev pub KeepsWellFormed : Type 0

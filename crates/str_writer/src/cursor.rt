@@ -5,6 +5,7 @@ ghost use lib.ListN.{take};
 ghost use lib.ListN as ListN;
 ghost use lib.Dec.{eqb};
 ghost use Rattle.str_writer.specs.Truncate.{startAt, truncated, truncatedUtf8};
+use crate::faults::cursor_fault;
 use crate::piece::Written;
 use error::Answer;
 use utils::is_char_boundary;
@@ -14,16 +15,8 @@ use utils::slice_up_to_len;
 pub fn from_custom(buf: &[u8], at: usize) -> Written
     ensures { λ r. ⌜ r ≡ startAt (now (buf .entry)) at ⌝ }
 {
-    if buf.len() < at {
-        return Written {
-            at,
-            answer: Answer::BadCursor,
-        };
-    }
-    Written {
-        at,
-        answer: Answer::Done,
-    }
+    let answer = cursor_fault(buf.len(), at);
+    Written { at, answer }
 }
 
 // A writer that begins with an empty text.
@@ -80,11 +73,9 @@ pub fn as_bytes(buf: &[u8], at: usize) -> &[u8]
 pub fn truncate(buf: &[u8], at: usize, length: usize) -> Written
     ensures { λ r. ⌜ r ≡ truncated (now (buf .entry)) at length ⌝ }
 {
-    if buf.len() < at {
-        return Written {
-            at,
-            answer: Answer::BadCursor,
-        };
+    let fault = cursor_fault(buf.len(), at);
+    if !fault.is_done() {
+        return Written { at, answer: fault };
     }
     if at < length {
         return Written {
@@ -102,11 +93,9 @@ pub fn truncate(buf: &[u8], at: usize, length: usize) -> Written
 pub fn truncate_utf8(buf: &[u8], at: usize, length: usize) -> Written
     ensures { λ r. ⌜ r ≡ truncatedUtf8 (now (buf .entry)) at length ⌝ }
 {
-    if buf.len() < at {
-        return Written {
-            at,
-            answer: Answer::BadCursor,
-        };
+    let fault = cursor_fault(buf.len(), at);
+    if !fault.is_done() {
+        return Written { at, answer: fault };
     }
     if length > at {
         return Written {

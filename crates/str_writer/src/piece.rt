@@ -4,7 +4,14 @@ ghost use Prim.Native.Nat.{_+_, _≤_};
 ghost use lib.ListN.{length};
 ghost use Rattle.str_writer.specs.Write.{outcome, splice};
 ghost use Rattle.str_writer.specs.Write.{put as putText};
+ghost use Rattle.utils.specs.Text.{part};
+ghost use Rattle.char_encoding.specs.Char.{charDisplay, charDebug};
+use crate::faults::piece_fault;
+use char_encoding::char_to_debug;
+use char_encoding::char_to_display;
 use error::Answer;
+use utils::Range;
+use utils::saturate_range;
 
 // What a write answers, and where the cursor then is.
 pub struct Written {
@@ -65,21 +72,47 @@ fn copy_at(buf: &mut [u8], at: usize, s: &[u8])
 pub fn put(buf: &mut [u8], at: usize, s: &[u8]) -> Written
     ensures { λ r. ⌜ outcome r (now (buf .exit)) ≡ putText (now (buf .entry)) at (now (s .entry)) ⌝ }
 {
-    if buf.len() < at {
-        return Written {
-            at,
-            answer: Answer::BadCursor,
-        };
-    }
-    if buf.len() - at < s.len() {
-        return Written {
-            at,
-            answer: Answer::NotEnoughSpace,
-        };
+    let fault = piece_fault(buf.len(), at, s.len());
+    if !fault.is_done() {
+        return Written { at, answer: fault };
     }
     copy_at(buf, at, s);
     Written {
         at: at + s.len(),
         answer: Answer::Done,
     }
+}
+
+// Writes the bytes of s in the clamped range.
+pub fn put_part(buf: &mut [u8], at: usize, s: &[u8], range: Range) -> Written
+    ensures { λ r. ⌜ outcome r (now (buf .exit)) ≡ putText (now (buf .entry)) at (part (now (s .entry)) range) ⌝ }
+{
+    let clamped = saturate_range(s, range);
+    let start = clamped.start;
+    let end = clamped.end;
+    put(buf, at, &s[start..end])
+}
+
+// Writes the octets of c, none where c is no character.
+pub fn put_char(buf: &mut [u8], at: usize, c: u32) -> Written
+    ensures { λ r. ⌜ outcome r (now (buf .exit)) ≡ putText (now (buf .entry)) at (charDisplay c) ⌝ }
+{
+    if c < 0x80 {
+        let one = [c as u8];
+        return put(buf, at, &one);
+    }
+    let e = char_to_display(c);
+    let len = e.len;
+    let encoded = e.encoded;
+    put(buf, at, &encoded[0..len])
+}
+
+// Writes c between marks, nothing where c is no character.
+pub fn put_char_debug(buf: &mut [u8], at: usize, c: u32) -> Written
+    ensures { λ r. ⌜ outcome r (now (buf .exit)) ≡ putText (now (buf .entry)) at (charDebug c) ⌝ }
+{
+    let e = char_to_debug(c);
+    let len = e.len;
+    let encoded = e.encoded;
+    put(buf, at, &encoded[0..len])
 }

@@ -6,8 +6,9 @@ use Prim.Native.Nat.{ℕ}
 use Rattle.error.specs.declared.Answer.the-variants.{Done, WrongCall}
 use Rattle.error.specs.Answer.{numberOf}
 use Rattle.formatting.specs.FlagsAsNumber.{areFlags, flagsOf}
-use Rattle.agreement.specs.Call.{Call}
-use Rattle.agreement.specs.Model.{Mode, Run, counting, writing, start, hold, beyond}
+use Rattle.calls.specs.declared.Settings.{Settings}
+use Rattle.calls.specs.Call.{Call, hold}
+use Rattle.calls.specs.Model.{Mode, Run, counting, writing, start, beyond}
 use Rattle.encoded_call.specs.Encoding.{decode}
 use Rattle.run.specs.Played.{runOr, Played, ended}
 
@@ -19,9 +20,13 @@ flagsFault n = cond (areFlags n) (numberOf Done) (numberOf WrongCall)
 abbrev pub callsBy : ℕ → List (Option Call) → List (Option Call)
 callsBy n ds = cond (areFlags n) ds []
 
+-- 'For senders': the settings of a run are its flags
+abbrev pub settingsBy : ℕ → Settings
+settingsBy n = record { flags = flagsOf n }
+
 -- Document 01, 'A nested record': a fresh run
 abbrev pub runBy : Mode → List ℕ → ℕ → List (Option Call) → Run
-runBy m b n ds = runOr (start m b (flagsOf n)) (callsBy n ds)
+runBy m b n ds = runOr (start m b (settingsBy n)) (callsBy n ds)
 
 -- Document 01, 'The answer to a call', order: 9, then 8; the end of a fresh run
 abbrev pub playedBy : Mode → List ℕ → ℕ → List (Option Call) → Played

@@ -6,11 +6,11 @@
 ghost use mathlib.Core.Path.{_≡_};
 ghost use mathlib.Core.List.{[]};
 ghost use Prim.Native.Nat.{_<_};
-ghost use Rattle.agreement.specs.Model.{counting, writing};
-ghost use Rattle.formatting.specs.FlagsAsNumber.{flagsOf};
+ghost use Rattle.calls.specs.Model.{counting, writing};
 ghost use Rattle.encoded_call.specs.Encoding.{decode};
 ghost use Rattle.run.specs.Played.{endCounted, endWritten, stored, CountAgrees, WriteAgrees, WritesAsCounted};
-ghost use Rattle.table_text.specs.Exported.{countEnd, countAnswers, writeEnd, writeAnswers};
+ghost use Rattle.table_text.specs.Exported.{settingsBy, countEnd, countAnswers, writeEnd, writeAnswers};
+use calls::Settings;
 use formatting::flags_of;
 use run::Ran;
 use run::count_run_each;
@@ -20,7 +20,7 @@ use run::write_run_each;
 fn count(flags: u64, calls: &[u64], text: &[u8], answers: &mut [u8]) -> Ran
     ensures { λ r. ⌜ endCounted r ≡ countEnd flags (now (calls .entry)) (now (text .entry)) ⌝ }
     ensures { λ _. ⌜ now (answers .exit) ≡ stored (now (answers .entry)) (countAnswers flags (now (calls .entry)) (now (text .entry))) ⌝ }
-    ensures { λ r. ⌜ (flags < 12 → CountAgrees (flagsOf flags) (decode (now (calls .entry)) (now (text .entry))) (r .first) (r .number)) ⌝ }
+    ensures { λ r. ⌜ (flags < 12 → CountAgrees (settingsBy flags) (decode (now (calls .entry)) (now (text .entry))) (r .first) (r .number)) ⌝ }
 {
     if 11 < flags {
         return Ran {
@@ -30,7 +30,10 @@ fn count(flags: u64, calls: &[u64], text: &[u8], answers: &mut [u8]) -> Ran
             entries: 0,
         };
     }
-    count_run_each(flags_of(flags), calls, text, answers)
+    let settings = Settings {
+        flags: flags_of(flags),
+    };
+    count_run_each(settings, calls, text, answers)
 }
 
 // A run written, with each call's answer as far as there is room.
@@ -44,8 +47,8 @@ fn write(
 ) -> Ran
     ensures { λ r. ⌜ endWritten r (now (buf .exit)) ≡ writeEnd flags (now (buf .entry)) at (now (calls .entry)) (now (text .entry)) ⌝ }
     ensures { λ _. ⌜ now (answers .exit) ≡ stored (now (answers .entry)) (writeAnswers flags (now (buf .entry)) at (now (calls .entry)) (now (text .entry))) ⌝ }
-    ensures { λ r. ⌜ (flags < 12 → WriteAgrees (flagsOf flags) (decode (now (calls .entry)) (now (text .entry))) (now (buf .entry)) at (r .first) (r .number) (now (buf .exit))) ⌝ }
-    ensures { λ r. ⌜ WritesAsCounted (countEnd flags (now (calls .entry)) (now (text .entry))) (flagsOf flags) (decode (now (calls .entry)) (now (text .entry))) (now (buf .entry)) at (r .first) (r .number) (now (buf .exit)) ⌝ }
+    ensures { λ r. ⌜ (flags < 12 → WriteAgrees (settingsBy flags) (decode (now (calls .entry)) (now (text .entry))) (now (buf .entry)) at (r .first) (r .number) (now (buf .exit))) ⌝ }
+    ensures { λ r. ⌜ WritesAsCounted (countEnd flags (now (calls .entry)) (now (text .entry))) (settingsBy flags) (decode (now (calls .entry)) (now (text .entry))) (now (buf .entry)) at (r .first) (r .number) (now (buf .exit)) ⌝ }
 {
     if 11 < flags {
         let first = if buf.len() < at { 9 } else { 8 };
@@ -56,7 +59,10 @@ fn write(
             entries: 0,
         };
     }
-    write_run_each(flags_of(flags), buf, at, calls, text, answers)
+    let settings = Settings {
+        flags: flags_of(flags),
+    };
+    write_run_each(settings, buf, at, calls, text, answers)
 }
 
 // Counts a run: its total is left in total.
@@ -64,7 +70,7 @@ fn write(
 pub extern "C" fn table_text_count(flags: u64, calls: &[u64], text: &[u8], total: &mut usize) -> u8
     ensures { λ r. ⌜ r ≡ countEnd flags (now (calls .entry)) (now (text .entry)) .first ⌝ }
     ensures { λ _. ⌜ record { mode = counting (now (total .exit)); bytes = [] } ≡ countEnd flags (now (calls .entry)) (now (text .entry)) .output ⌝ }
-    ensures { λ r. ⌜ (flags < 12 → CountAgrees (flagsOf flags) (decode (now (calls .entry)) (now (text .entry))) r (now (total .exit))) ⌝ }
+    ensures { λ r. ⌜ (flags < 12 → CountAgrees (settingsBy flags) (decode (now (calls .entry)) (now (text .entry))) r (now (total .exit))) ⌝ }
 {
     let mut none = [0u8; 0];
     let r = count(flags, calls, text, &mut none);
@@ -83,8 +89,8 @@ pub extern "C" fn table_text_write(
 ) -> u8
     ensures { λ r. ⌜ r ≡ writeEnd flags (now (buf .entry)) (now (cursor .entry)) (now (calls .entry)) (now (text .entry)) .first ⌝ }
     ensures { λ _. ⌜ record { mode = writing (now (cursor .exit)); bytes = now (buf .exit) } ≡ writeEnd flags (now (buf .entry)) (now (cursor .entry)) (now (calls .entry)) (now (text .entry)) .output ⌝ }
-    ensures { λ r. ⌜ (flags < 12 → WriteAgrees (flagsOf flags) (decode (now (calls .entry)) (now (text .entry))) (now (buf .entry)) (now (cursor .entry)) r (now (cursor .exit)) (now (buf .exit))) ⌝ }
-    ensures { λ r. ⌜ WritesAsCounted (countEnd flags (now (calls .entry)) (now (text .entry))) (flagsOf flags) (decode (now (calls .entry)) (now (text .entry))) (now (buf .entry)) (now (cursor .entry)) r (now (cursor .exit)) (now (buf .exit)) ⌝ }
+    ensures { λ r. ⌜ (flags < 12 → WriteAgrees (settingsBy flags) (decode (now (calls .entry)) (now (text .entry))) (now (buf .entry)) (now (cursor .entry)) r (now (cursor .exit)) (now (buf .exit))) ⌝ }
+    ensures { λ r. ⌜ WritesAsCounted (countEnd flags (now (calls .entry)) (now (text .entry))) (settingsBy flags) (decode (now (calls .entry)) (now (text .entry))) (now (buf .entry)) (now (cursor .entry)) r (now (cursor .exit)) (now (buf .exit)) ⌝ }
 {
     let mut none = [0u8; 0];
     let r = write(flags, buf, *cursor, calls, text, &mut none);
@@ -105,7 +111,7 @@ pub extern "C" fn table_text_count_each(
 ) -> u8
     ensures { λ r. ⌜ r ≡ countEnd flags (now (calls .entry)) (now (text .entry)) .first ⌝ }
     ensures { λ _. ⌜ record { mode = counting (now (total .exit)); bytes = [] } ≡ countEnd flags (now (calls .entry)) (now (text .entry)) .output ⌝ }
-    ensures { λ r. ⌜ (flags < 12 → CountAgrees (flagsOf flags) (decode (now (calls .entry)) (now (text .entry))) r (now (total .exit))) ⌝ }
+    ensures { λ r. ⌜ (flags < 12 → CountAgrees (settingsBy flags) (decode (now (calls .entry)) (now (text .entry))) r (now (total .exit))) ⌝ }
     ensures { λ _. ⌜ now (entries .exit) ≡ countEnd flags (now (calls .entry)) (now (text .entry)) .entries ⌝ }
     ensures { λ _. ⌜ now (answers .exit) ≡ stored (now (answers .entry)) (countAnswers flags (now (calls .entry)) (now (text .entry))) ⌝ }
 {
@@ -129,8 +135,8 @@ pub extern "C" fn table_text_write_each(
 ) -> u8
     ensures { λ r. ⌜ r ≡ writeEnd flags (now (buf .entry)) (now (cursor .entry)) (now (calls .entry)) (now (text .entry)) .first ⌝ }
     ensures { λ _. ⌜ record { mode = writing (now (cursor .exit)); bytes = now (buf .exit) } ≡ writeEnd flags (now (buf .entry)) (now (cursor .entry)) (now (calls .entry)) (now (text .entry)) .output ⌝ }
-    ensures { λ r. ⌜ (flags < 12 → WriteAgrees (flagsOf flags) (decode (now (calls .entry)) (now (text .entry))) (now (buf .entry)) (now (cursor .entry)) r (now (cursor .exit)) (now (buf .exit))) ⌝ }
-    ensures { λ r. ⌜ WritesAsCounted (countEnd flags (now (calls .entry)) (now (text .entry))) (flagsOf flags) (decode (now (calls .entry)) (now (text .entry))) (now (buf .entry)) (now (cursor .entry)) r (now (cursor .exit)) (now (buf .exit)) ⌝ }
+    ensures { λ r. ⌜ (flags < 12 → WriteAgrees (settingsBy flags) (decode (now (calls .entry)) (now (text .entry))) (now (buf .entry)) (now (cursor .entry)) r (now (cursor .exit)) (now (buf .exit))) ⌝ }
+    ensures { λ r. ⌜ WritesAsCounted (countEnd flags (now (calls .entry)) (now (text .entry))) (settingsBy flags) (decode (now (calls .entry)) (now (text .entry))) (now (buf .entry)) (now (cursor .entry)) r (now (cursor .exit)) (now (buf .exit)) ⌝ }
     ensures { λ _. ⌜ now (entries .exit) ≡ writeEnd flags (now (buf .entry)) (now (cursor .entry)) (now (calls .entry)) (now (text .entry)) .entries ⌝ }
     ensures { λ _. ⌜ now (answers .exit) ≡ stored (now (answers .entry)) (writeAnswers flags (now (buf .entry)) (now (cursor .entry)) (now (calls .entry)) (now (text .entry))) ⌝ }
 {

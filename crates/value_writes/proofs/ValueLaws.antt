@@ -1,11 +1,9 @@
--- A value: its text written as a single write, its length added to a total, or the fault that it meets; and the parts of its length.
-use mathlib.Core.Bool.{Bool, true, false, cond, _&&_}
-use mathlib.Core.Logic.{dite}
+-- A value judged, then emitted: the fault that it meets, or its text placed or counted; and the parts of its length.
+use mathlib.Core.Bool.{Bool, true, false, not, cond}
 use mathlib.Core.Option.{Option, none, some}
-use mathlib.Core.Path.{_≡_, refl, sym}
+use mathlib.Core.Path.{_≡_, refl, sym, ap, _∙_}
 use mathlib.Core.List.{List, [], _∷_, _++_}
 use Prim.Native.Nat.{ℕ, zero, suc, _+_, _-_, _^_, _<_}
-use native.Mathlib.Decide.{decLt}
 use native.Mathlib.Omega.{arith}
 use lib.Dec.{ltb}
 use lib.IntN.{ℤ, pos, negsuc, natAbs}
@@ -15,107 +13,108 @@ use lib.Signed.{ltZ}
 use mir.Syntax.{Width}
 use mir.Val.{SFits, ofZ, toZ}
 use mir.ValLaws.{toZ-ofZ}
-use borrow.Author.Tests.{lt-ltb, le-ltb, le-leb, lt-leb, ltb-false}
+use borrow.Author.Tests.{not-true, not-false, lt-ltb, le-ltb, ltb-false}
 use Rattle.error.specs.declared.Answer.{Answer}
-use Rattle.error.specs.declared.Answer.the-variants.{NotOnCharBoundary, NotUtf8, NotAChar}
-use Rattle.error.specs.Answer.{numberOf}
+use Rattle.error.specs.declared.Answer.the-variants.{Done, NotEnoughSpace, NotAscii, NotOnCharBoundary, NotUtf8, NotAChar, CountTooLarge, TooDeep, WrongCall, BadCursor}
+use Rattle.error.specs.Answer.{numberOf, answerOf, isDone}
 use Rattle.formatting.specs.declared.flags.FormattingFlags.{FormattingFlags}
 use Rattle.formatting.specs.declared.flags.NumberFormatting.{NumberFormatting}
 use Rattle.formatting.specs.declared.flags.NumberFormatting.the-variants.{Decimal, Hexadecimal, Binary}
 use Rattle.formatting.specs.Escape.{quoted}
-use Rattle.utf8.specs.Utf8.{wellFormed, isScalar}
 use Rattle.utils.specs.declared.Range.{Range}
-use Rattle.utils.specs.Text.{saturated, part, isBoundary}
-use Rattle.ascii_str.specs.declared.AsciiStr.{AsciiStr}
-use Rattle.ascii_str.specs.declared.AsciiStr.the-variants.{Ascii, NotAsciiError}
-use Rattle.ascii_str.specs.Ascii.{asciiFrom}
+use Rattle.utils.specs.Text.{saturated, part}
 use Rattle.pwrapper.specs.declared.quoted.DebugLen.{DebugLen}
 use Rattle.pwrapper.specs.Number.{decimal, displayText, twosComplement, debugIn, debugParts}
 use Rattle.pwrapper.specs.QuotedCount.{countOf}
-use Rattle.str_writer.specs.Value.{Form, display, debug, Value, integer, char, str, ascii, repeated, textOf, asciiFault, inputFault, cutFault, leaves}
-use Rattle.str_writer.specs.Write.{Outcome, placed, firstOf, unless, write}
+use Rattle.str_writer.specs.Value.{Form, display, debug, Value, integer, textOf, inputFault, cutFault, leaves}
+use Rattle.str_writer.specs.Write.{Outcome, placed, cursorFault, firstOf, unless, write}
 use Rattle.str_writer.proofs.Values.{clamped-end}
-use Rattle.agreement.specs.Call.{faultNumber}
-use Rattle.agreement.specs.Model.{writing, most, hold, wrote}
+use Rattle.calls.specs.Call.{faultNumber}
+use Rattle.calls.specs.Model.{Mode, counting, writing, PieceOutcome, to, most, putIn, putValue, wrote, beyond}
 use Rattle.writer_backend.specs.declared.pieces.WriterBackend.{WriterBackend}
 use Rattle.value_writes.specs.declared.Integer.{Integer}
 use Rattle.value_writes.specs.declared.Integer.the-variants.{Unsigned, Signed}
 use Rattle.value_writes.specs.declared.Parts.{Parts}
-use Rattle.writer_backend.specs.Output.{outputOf, countIn}
-use Rattle.value_writes.specs.Values.{bitsOf, integerOf, heededBy, textOfParts, unlessFault, valueOut}
+use Rattle.writer_backend.specs.Output.{modeOf, outputOf}
+use Rattle.writer_backend.proofs.Sequence.{hold-zero}
+use Rattle.value_writes.specs.Values.{bitsOf, integerOf, heededBy, textOfParts, judgedIn, valueOut}
 
--- what a value meets is no fault, or one whose number is not 0
-data Met : Option Answer → Type 0 where
-  fine : Met none
-  fault : {a : Answer} {n : ℕ} → numberOf a ≡ suc n → Met (some a)
+-- the number of an answer by whether it is 0
+by-done : (a : Answer) → numberOf a ≡ cond (isDone a) 0 (suc (numberOf a - 1))
+by-done Done = refl
+by-done NotEnoughSpace = refl
+by-done NotAscii = refl
+by-done NotOnCharBoundary = refl
+by-done NotUtf8 = refl
+by-done NotAChar = refl
+by-done CountTooLarge = refl
+by-done TooDeep = refl
+by-done WrongCall = refl
+by-done BadCursor = refl
 
-met-unless : (t : Bool) (a : Answer) (n : ℕ) → numberOf a ≡ suc n → Met (cond t none (some a))
-met-unless true a n e = fine
-met-unless false a n e = fault e
+-- what `!fault.is_done()` tells of a fault's number
+module _ (a : Answer) {d : Bool} (t : d ≡ isDone a) where
+  pub number-met : not d ≡ true → numberOf a ≡ suc (numberOf a - 1)
+  number-met n = let q : isDone a ≡ false = sym t ∙ not-true d n in rw q at (by-done a)
 
-met-ascii : (x : AsciiStr) → Met (asciiFault x)
-met-ascii Ascii = fine
-met-ascii (NotAsciiError i) = fault {n = 1} refl
+  pub number-done : not d ≡ false → numberOf a ≡ 0
+  number-done n = let q : isDone a ≡ true = sym t ∙ not-false d n in rw q at (by-done a)
 
-met-input : (v : Value) → Met (inputFault v)
-unfolding inputFault
-met-input (integer m k z) = fine
-met-input (char m c) = met-unless (isScalar c) NotAChar 4 refl
-met-input (str m s r) = met-unless (wellFormed s) NotUtf8 3 refl
-met-input (ascii m s r) = met-ascii (asciiFrom 0 s)
-met-input (repeated c n) = fine
+-- a value that no range cuts is judged by its input
+pub judged-uncut : (m : Mode) (v : Value) (a : Answer) → a ≡ answerOf (inputFault v) → cutFault v ≡ none → numberOf a ≡ judgedIn m v
+judged-uncut (counting n) v a e u = rw e (sym (hold-zero (faultNumber (inputFault v))))
+judged-uncut (writing p) v a e u = rw (e, u) (sym (hold-zero (faultNumber (inputFault v))))
 
-met-cut : (v : Value) → Met (cutFault v)
-unfolding cutFault
-met-cut (integer m k z) = fine
-met-cut (char m c) = fine
-met-cut (str m s r) = met-unless (isBoundary s (saturated s r .start) && isBoundary s (saturated s r .end)) NotOnCharBoundary 2 refl
-met-cut (ascii m s r) = fine
-met-cut (repeated c n) = fine
+-- a string: 4, then 3 in writing
+module _ (m : Mode) (v : Value) (a : Answer) (e : a ≡ answerOf (inputFault v)) {d : Bool} (t : d ≡ isDone a) where
+  pub judged-met : not d ≡ true → numberOf a ≡ judgedIn m v
+  judged-met n = rw (← e, number-met a t n)
 
--- the first fault of a single write, by its number
-first-fault : (b : List ℕ) (at : ℕ) (o : Outcome) {x y : Option Answer} → Met x → Met y
-    → wrote (unless (firstOf (x ∷ y ∷ [])) b at o) ≡ unlessFault (hold (faultNumber x) (faultNumber y)) (record { mode = writing at; bytes = b }) (wrote o)
-first-fault b at o fine fine = refl
-first-fault b at o fine (fault e) = rw e
-first-fault b at o (fault e) y = rw e
+  pub judged-counting : not d ≡ false → {n : ℕ} → m ≡ counting n → 0 ≡ judgedIn m v
+  judged-counting n q = rw (← e, number-done a t n, q)
 
--- a total, its counting number by cases
-module _ (n : ℕ) (b : List ℕ) (f : FormattingFlags) (v : Value) where
-  counted : (t : ℕ) → (t ≡ 0 → ⊥) → inputFault v ≡ none → (k : ℕ) → k ≡ length (textOf f v)
-      → countIn (record { counting = t; number = n }) b k ≡ valueOut (record { counting = t; number = n }) b f v
-  unfolding valueOut
-  counted zero q e k l = absurd (q refl)
-  counted (suc t) q e k l = rw (e, l)
-
-  refused : (t : ℕ) → (t ≡ 0 → ⊥) → (a : Answer) (k : ℕ) → numberOf a ≡ suc k → inputFault v ≡ some a
-      → record { answer = numberOf a; output = outputOf (record { counting = t; number = n }) b } ≡ valueOut (record { counting = t; number = n }) b f v
-  unfolding valueOut
-  refused zero q a k h e = absurd (q refl)
-  refused (suc t) q a k h e = rw (e, h)
+  pub judged-writing : not d ≡ false → {n : ℕ} → m ≡ writing n → {r : Answer} → r ≡ answerOf (cutFault v) → numberOf r ≡ judgedIn m v
+  judged-writing n q h = rw (← e, number-done a t n, q, h)
 
 module _ (m : WriterBackend) (b : List ℕ) (f : FormattingFlags) (v : Value) where
-  -- the length of its text is counted
-  pub value-counts : (m .counting ≡ 0 → ⊥) → inputFault v ≡ none → {k : ℕ} → k ≡ length (textOf f v) → countIn m b k ≡ valueOut m b f v
-  value-counts q e {k} l = counted (m .number) b f v (m .counting) q e k l
+  -- 9 before all
+  pub value-past : (a : ℕ) → a ≡ beyond (modeOf m) b → (a ≡ 0 → ⊥) → to (modeOf m) b a ≡ valueOut m b f v
+  unfolding valueOut
+  value-past zero e n = absurd (n refl)
+  value-past (suc a) e n = rw (← e)
 
-  -- a fault of its input is met in counting
-  pub value-refused : (m .counting ≡ 0 → ⊥) → (a : Answer) (k : ℕ) → numberOf a ≡ suc k → inputFault v ≡ some a → record { answer = numberOf a; output = outputOf m b } ≡ valueOut m b f v
-  value-refused q a k h e = refused (m .number) b f v (m .counting) q a k h e
+  -- a cursor within the bytes: a fault that is met is answered, else the text is counted or placed
+  module _ (h : beyond (modeOf m) b ≡ 0) (a : Answer) (e : numberOf a ≡ judgedIn (modeOf m) v) {d : Bool} (t : d ≡ isDone a) where
+    pub value-refused : not d ≡ true → {r : PieceOutcome} → r ≡ to (modeOf m) b (numberOf a) → r ≡ valueOut m b f v
+    unfolding valueOut
+    value-refused n p = p ∙ rw (h, ← e, number-met a t n)
 
-  -- it is written as by a single write, under any flags with which its text is the same
-  pub value-writes : m .counting ≡ 0 → (g : FormattingFlags) → textOf g v ≡ textOf f v → {o : Outcome} → o ≡ write g b (m .number) v → wrote o ≡ valueOut m b f v
-  unfolding valueOut write
-  value-writes e g t q =
-      rw (q, e, t)
-      (dite (decLt (length b) (m .number))
-      (λ h. rw (lt-ltb (length b) (m .number) h, lt-leb (m .number) (length b) h))
-      (λ h. rw (le-ltb (length b) (m .number) (omega arith), le-leb (m .number) (length b) (omega arith)) (first-fault b (m .number) (placed b (m .number) (textOf f v) (leaves (length b - m .number) v)) (met-input v) (met-cut v))))
+    emitted : not d ≡ false → putValue (outputOf m b) f v ≡ valueOut m b f v
+    unfolding valueOut
+    emitted n = rw (h, ← e, number-done a t n)
 
--- an integer meets no fault
-pub integer-fine : (m : Form) (k : ℕ) (z : ℤ) → inputFault (integer m k z) ≡ none
-unfolding inputFault
-integer-fine m k z = refl
+    pub value-counted : not d ≡ false → modeOf m ≡ counting (m .number) → {r : PieceOutcome} → r ≡ putIn (modeOf m) b (textOf f v) (λ k. []) → r ≡ valueOut m b f v
+    value-counted n q p = p ∙ (rw q) ∙ emitted n
+
+    pub value-placed : not d ≡ false → modeOf m ≡ writing (m .number) → {o : Outcome}
+        → o ≡ unless (cursorFault b (m .number)) b (m .number) (placed b (m .number) (textOf f v) (leaves (length b - m .number) v)) → wrote o ≡ valueOut m b f v
+    value-placed n q p =
+        ap wrote p ∙ by-test (ltb (length b) (m .number)) (placed b (m .number) (textOf f v) (leaves (length b - m .number) v)) (rw q at h)
+        ∙ (rw q) ∙ emitted n
+      where
+        by-test : (t : Bool) (o : Outcome) → faultNumber (cond t (some BadCursor) none) ≡ 0 → wrote (unless (cond t (some BadCursor) none) b (m .number) o) ≡ wrote o
+        by-test true o z = absurd (omega (arith, z))
+        by-test false o z = refl
+
+-- a write of a value that meets no fault tests the cursor only
+pub write-unmet : (g : FormattingFlags) (b : List ℕ) (at : ℕ) (v : Value) → inputFault v ≡ none → cutFault v ≡ none
+    → write g b at v ≡ unless (cursorFault b at) b at (placed b at (textOf g v) (leaves (length b - at) v))
+unfolding write
+write-unmet g b at v e u = rw (e, u) (by-cursor (cursorFault b at))
+  where
+    by-cursor : (x : Option Answer) → unless (firstOf (x ∷ none ∷ none ∷ [])) b at (placed b at (textOf g v) (leaves (length b - at) v)) ≡ unless x b at (placed b at (textOf g v) (leaves (length b - at) v))
+    by-cursor none = refl
+    by-cursor (some a) = refl
 
 -- what holds of every integer, of any width, holds of one by its type
 pub by-type : (P : Value → Type 0) (m : Form) → ((k : ℕ) (z : ℤ) → P (integer m k z)) → (x : Integer) → P (integerOf m x)
@@ -157,8 +156,8 @@ module _ (t : List ℕ) (q : DebugLen) (e : q ≡ countOf (length (quoted t))) w
   pub quoted-length : (q .len ≡ 0 → ⊥) → q .len ≡ length (quoted t)
   quoted-length = within _ q e
 
-  pub quoted-refused : (m : WriterBackend) (b : List ℕ) → q .len ≡ 0 → record { answer = 6; output = outputOf m b } ≡ countIn m b (length (quoted t))
-  quoted-refused m b z = let h : most < length (quoted t) = above _ q e z in rw (lt-ltb most (m .number + length (quoted t)) (omega arith))
+  pub quoted-refused : (n : ℕ) (b : List ℕ) → q .len ≡ 0 → to (counting n) b 6 ≡ putIn (counting n) b (quoted t) (λ n. [])
+  quoted-refused n b z = let h : most < length (quoted t) = above _ q e z in rw (lt-ltb most (n + length (quoted t)) (omega arith))
 
 -- the two's complement at a width, by the sign
 pub twos-by-sign : (w : Width) (z : ℤ) → SFits w z → (k : ℕ) → twosComplement k z ≡ cond (ltZ (toZ w (ofZ w z)) (pos 0)) (2 ^ k - natAbs z) (natAbs z)

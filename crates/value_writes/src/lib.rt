@@ -1,20 +1,24 @@
 // A value counted or written as one piece: the text of strings is lent beside it.
 ghost use mathlib.Core.Path.{_≡_};
-ghost use mathlib.Core.List.{List};
+ghost use mathlib.Core.Bool.{true};
+ghost use mathlib.Core.List.{List, []};
 ghost use Prim.Native.Nat.{ℕ, _+_, _^_};
 ghost use lib.IntN.{ℤ};
 ghost use lib.ListN.{length};
+ghost use Rattle.error.specs.declared.Answer.the-variants.{Done};
+ghost use Rattle.error.specs.Answer.{numberOf};
 ghost use Rattle.formatting.specs.declared.flags.FormattingFlags as Flags;
 ghost use Rattle.utils.specs.Text.{part};
 ghost use Rattle.pwrapper.specs.Number.{debugParts, twosComplement};
-ghost use Rattle.str_writer.specs.Value.{integer, char, str, ascii, repeated, textOf, stringText};
+ghost use Rattle.str_writer.specs.Value.{integer, char, str, ascii, repeated, textOf, stringText, inputFault, cutFault};
 ghost use Rattle.str_writer.specs.Value.{Form as ValueForm};
-ghost use Rattle.writer_backend.specs.Output.{putOut, countIn};
-ghost use Rattle.value_writes.specs.Values.{formOf, bitsOf, heededBy, integerOf, textOfParts, valueOf, valueOut};
-use ascii_str::AsciiStr;
+ghost use Rattle.calls.specs.Call.{faultNumber};
+ghost use Rattle.calls.specs.Model.{putIn, beyond};
+ghost use Rattle.writer_backend.specs.Output.{modeOf, isCounting, putOut};
+ghost use Rattle.value_writes.specs.Values.{formOf, bitsOf, heededBy, integerOf, textOfParts, valueOf, judgedIn, valueOut};
 use char_encoding::char_debug_len;
 use char_encoding::char_display_len;
-use char_encoding::is_char;
+use error::Answer;
 use formatting::FormattingFlags;
 use formatting::NumberFormatting;
 use integer_writes::decimal_len;
@@ -23,20 +27,22 @@ use pwrapper::binary_len_u64;
 use pwrapper::compute_utf8_debug_len_in_range;
 use pwrapper::hexadecimal_len_u64;
 use pwrapper::unsigned_abs_i64;
-use quoted_writes::write_ascii_range_debug;
-use quoted_writes::write_str_range_debug;
-use str_writer::write_ascii_range;
+use quoted_writes::put_quoted_part;
+use str_writer::ascii_fault;
+use str_writer::char_fault;
+use str_writer::put_char_debug;
+use str_writer::put_part;
+use str_writer::range_fault;
+use str_writer::str_fault;
 use str_writer::write_ascii_repeated;
-use str_writer::write_char;
-use str_writer::write_char_debug;
-use str_writer::write_str_range;
-use utf8::is_utf8;
 use utils::Range;
 use utils::saturate_range;
 use writer_backend::WriterBackend;
 use writer_backend::Wrote;
 use writer_backend::add_len;
+use writer_backend::answered;
 use writer_backend::from_written;
+use writer_backend::past;
 
 pub enum Form {
     Display,
@@ -75,6 +81,32 @@ struct Parts {
     bits: u64,
 }
 
+// The 2, 4 or 5 that a value meets.
+pub fn value_fault(v: PVariant, s: &[u8]) -> u8
+    ensures { λ r. ⌜ r ≡ faultNumber (inputFault (valueOf v (now (s .entry)))) ⌝ }
+{
+    match v {
+        PVariant::Int(_, _) => Answer::Done.number(),
+        PVariant::Char(_, c) => char_fault(c).number(),
+        PVariant::Str(_, _) => str_fault(s).number(),
+        PVariant::Ascii(_, _) => ascii_fault(s).number(),
+        PVariant::Repeated(_, _) => Answer::Done.number(),
+    }
+}
+
+// The 3 that a value meets.
+pub fn cut_fault(v: PVariant, s: &[u8]) -> u8
+    ensures { λ r. ⌜ r ≡ faultNumber (cutFault (valueOf v (now (s .entry)))) ⌝ }
+{
+    match v {
+        PVariant::Int(_, _) => Answer::Done.number(),
+        PVariant::Char(_, _) => Answer::Done.number(),
+        PVariant::Str(_, range) => range_fault(s, range).number(),
+        PVariant::Ascii(_, _) => Answer::Done.number(),
+        PVariant::Repeated(_, _) => Answer::Done.number(),
+    }
+}
+
 // Writes or counts a value, tested in the order 9, then 2, 4 or 5, then 3 in writing, then 6 or 1.
 pub fn put_value(
     m: WriterBackend,
@@ -85,6 +117,13 @@ pub fn put_value(
 ) -> Wrote
     ensures { λ r. ⌜ putOut r (now (buf .exit)) ≡ valueOut m (now (buf .entry)) flags (valueOf v (now (s .entry))) ⌝ }
 {
+    let fault = past(m, buf);
+    if fault != Answer::Done.number() {
+        return Wrote {
+            answer: fault,
+            mode: m,
+        };
+    }
     match v {
         PVariant::Int(form, x) => put_integer(m, buf, parts_of(form, x, flags)),
         PVariant::Char(form, c) => put_char(m, buf, form, c),
@@ -159,13 +198,16 @@ fn bits_at(width: Width, x: i64) -> u64
 // An integer counted or written. Its functions have one call site each: the compiler lays them into
 // the run's loop.
 fn put_integer(m: WriterBackend, buf: &mut [u8], p: Parts) -> Wrote
-    ensures { λ r. ⌜ ((f : Flags.FormattingFlags) (form : ValueForm) (k : ℕ) (z : ℤ) → textOf f (integer form k z) ≡ textOfParts p → putOut r (now (buf .exit)) ≡ valueOut m (now (buf .entry)) f (integer form k z)) ⌝ }
+    ensures { λ r. ⌜ ((f : Flags.FormattingFlags) (form : ValueForm) (k : ℕ) (z : ℤ) → beyond (modeOf m) (now (buf .entry)) ≡ numberOf Done → textOf f (integer form k z) ≡ textOfParts p → putOut r (now (buf .exit)) ≡ valueOut m (now (buf .entry)) f (integer form k z)) ⌝ }
 {
     let flags = p.flags;
-    if m.counting != 0 {
+    if m.is_counting() {
         return add_len(m, debug_len(p.is_negative, p.n, p.bits, flags));
     }
-    from_written(write_debug(buf, m.number, p.is_negative, p.n, p.bits, flags))
+    from_written(
+        m,
+        write_debug(buf, m.number, p.is_negative, p.n, p.bits, flags),
+    )
 }
 
 fn debug_len(is_negative: bool, n: u64, bits: u64, flags: FormattingFlags) -> usize
@@ -180,18 +222,19 @@ fn debug_len(is_negative: bool, n: u64, bits: u64, flags: FormattingFlags) -> us
 }
 
 fn put_char(m: WriterBackend, buf: &mut [u8], form: Form, c: u32) -> Wrote
-    ensures { λ r. ⌜ ((f : Flags.FormattingFlags) → putOut r (now (buf .exit)) ≡ valueOut m (now (buf .entry)) f (char (formOf form) c)) ⌝ }
+    ensures { λ r. ⌜ ((f : Flags.FormattingFlags) → beyond (modeOf m) (now (buf .entry)) ≡ numberOf Done → putOut r (now (buf .exit)) ≡ valueOut m (now (buf .entry)) f (char (formOf form) c)) ⌝ }
 {
-    if m.counting != 0 {
-        if !is_char(c) {
-            return Wrote { answer: 5, mode: m };
-        }
-        return add_len(m, char_len(form, c));
+    let fault = char_fault(c);
+    if !fault.is_done() {
+        return answered(m, fault);
     }
     let at = m.number;
+    if m.is_counting() {
+        return add_len(m, char_len(form, c));
+    }
     match form {
-        Form::Display => from_written(write_char(buf, at, c)),
-        Form::Debug => from_written(write_char_debug(buf, at, c)),
+        Form::Display => from_written(m, str_writer::put_char(buf, at, c)),
+        Form::Debug => from_written(m, put_char_debug(buf, at, c)),
     }
 }
 
@@ -204,41 +247,57 @@ fn char_len(form: Form, c: u32) -> usize
     }
 }
 
-fn put_str(m: WriterBackend, buf: &mut [u8], form: Form, s: &[u8], range: Range) -> Wrote
-    ensures { λ r. ⌜ ((f : Flags.FormattingFlags) → putOut r (now (buf .exit)) ≡ valueOut m (now (buf .entry)) f (str (formOf form) (now (s .entry)) range)) ⌝ }
+// 4, then 3 in writing.
+fn judge_str(m: WriterBackend, s: &[u8], range: Range) -> Answer
+    ensures { λ r. ⌜ ((form : ValueForm) → numberOf r ≡ judgedIn (modeOf m) (str form (now (s .entry)) range)) ⌝ }
 {
-    if m.counting != 0 {
-        if !is_utf8(s) {
-            return Wrote { answer: 4, mode: m };
-        }
-        return add_string(m, form, s, range);
+    let fault = str_fault(s);
+    if !fault.is_done() {
+        return fault;
+    }
+    if m.is_counting() {
+        return Answer::Done;
+    }
+    range_fault(s, range)
+}
+
+fn put_str(m: WriterBackend, buf: &mut [u8], form: Form, s: &[u8], range: Range) -> Wrote
+    ensures { λ r. ⌜ ((f : Flags.FormattingFlags) → beyond (modeOf m) (now (buf .entry)) ≡ numberOf Done → putOut r (now (buf .exit)) ≡ valueOut m (now (buf .entry)) f (str (formOf form) (now (s .entry)) range)) ⌝ }
+{
+    let fault = judge_str(m, s, range);
+    if !fault.is_done() {
+        return answered(m, fault);
     }
     let at = m.number;
+    if m.is_counting() {
+        return add_string(m, form, s, range);
+    }
     match form {
-        Form::Display => from_written(write_str_range(buf, at, s, range)),
-        Form::Debug => from_written(write_str_range_debug(buf, at, s, range)),
+        Form::Display => from_written(m, put_part(buf, at, s, range)),
+        Form::Debug => from_written(m, put_quoted_part(buf, at, s, range)),
     }
 }
 
 fn put_ascii(m: WriterBackend, buf: &mut [u8], form: Form, s: &[u8], range: Range) -> Wrote
-    ensures { λ r. ⌜ ((f : Flags.FormattingFlags) → putOut r (now (buf .exit)) ≡ valueOut m (now (buf .entry)) f (ascii (formOf form) (now (s .entry)) range)) ⌝ }
+    ensures { λ r. ⌜ ((f : Flags.FormattingFlags) → beyond (modeOf m) (now (buf .entry)) ≡ numberOf Done → putOut r (now (buf .exit)) ≡ valueOut m (now (buf .entry)) f (ascii (formOf form) (now (s .entry)) range)) ⌝ }
 {
-    if m.counting != 0 {
-        return match AsciiStr::new(s) {
-            AsciiStr::Ascii => add_string(m, form, s, range),
-            AsciiStr::NotAsciiError { invalid_from: _ } => Wrote { answer: 2, mode: m },
-        };
+    let fault = ascii_fault(s);
+    if !fault.is_done() {
+        return answered(m, fault);
     }
     let at = m.number;
+    if m.is_counting() {
+        return add_string(m, form, s, range);
+    }
     match form {
-        Form::Display => from_written(write_ascii_range(buf, at, s, range)),
-        Form::Debug => from_written(write_ascii_range_debug(buf, at, s, range)),
+        Form::Display => from_written(m, put_part(buf, at, s, range)),
+        Form::Debug => from_written(m, put_quoted_part(buf, at, s, range)),
     }
 }
 
 // The length of a clamped range, bare or quoted, added to the total.
 fn add_string(m: WriterBackend, form: Form, s: &[u8], range: Range) -> Wrote
-    ensures { λ r. ⌜ ((b : List ℕ) → putOut r b ≡ countIn m b (length (stringText (formOf form) (part (now (s .entry)) range)))) ⌝ }
+    ensures { λ r. ⌜ ((b : List ℕ) → isCounting (modeOf m) ≡ true → putOut r b ≡ putIn (modeOf m) b (stringText (formOf form) (part (now (s .entry)) range)) (λ n. [])) ⌝ }
 {
     match form {
         Form::Display => {
@@ -249,7 +308,7 @@ fn add_string(m: WriterBackend, form: Form, s: &[u8], range: Range) -> Wrote
             let quoted = compute_utf8_debug_len_in_range(s, range);
             let len = quoted.len;
             if len == 0 {
-                return Wrote { answer: 6, mode: m };
+                return answered(m, Answer::CountTooLarge);
             }
             add_len(m, len)
         }
@@ -257,10 +316,10 @@ fn add_string(m: WriterBackend, form: Form, s: &[u8], range: Range) -> Wrote
 }
 
 fn put_repeated(m: WriterBackend, buf: &mut [u8], c: u8, n: usize) -> Wrote
-    ensures { λ r. ⌜ ((f : Flags.FormattingFlags) → putOut r (now (buf .exit)) ≡ valueOut m (now (buf .entry)) f (repeated c n)) ⌝ }
+    ensures { λ r. ⌜ ((f : Flags.FormattingFlags) → beyond (modeOf m) (now (buf .entry)) ≡ numberOf Done → putOut r (now (buf .exit)) ≡ valueOut m (now (buf .entry)) f (repeated c n)) ⌝ }
 {
-    if m.counting != 0 {
+    if m.is_counting() {
         return add_len(m, n);
     }
-    from_written(write_ascii_repeated(buf, m.number, c, n))
+    from_written(m, write_ascii_repeated(buf, m.number, c, n))
 }

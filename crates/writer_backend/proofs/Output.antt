@@ -1,40 +1,55 @@
 -- One piece: its length added to a total, or its text written at the cursor.
-use mathlib.Core.Path.{_≡_, refl}
+use mathlib.Core.Bool.{Bool, true, false, false≢true}
+use mathlib.Core.Path.{_≡_, refl, sym, _∙_}
 use mathlib.Core.List.{List}
-use Prim.Native.Nat.{ℕ, zero, suc, _+_, _≤_, _<_}
+use Prim.Native.Nat.{ℕ, zero, suc, _+_, _%_, _≤_, _<_}
 use native.Mathlib.Omega.{arith}
+use lib.Dec.{eqb}
 use lib.ListN.{length}
-use borrow.Author.Tests.{lt-ltb, le-leb, lt-leb}
-use Rattle.agreement.specs.Model.{to, counting, put, wrote, beyond}
+use borrow.Author.Tests.{lt-ltb}
+use Rattle.calls.specs.Model.{Mode, to, counting, writing, put, wrote}
 use Rattle.str_writer.specs.Write.{placed}
 use Rattle.str_writer.specs.Write.{put as putText}
 use Rattle.str_writer.proofs.Outcomes.{put-placed}
 use Rattle.str_writer.proofs.Splice.{splice-nil}
 use Rattle.writer_backend.specs.declared.pieces.WriterBackend.{WriterBackend}
-use Rattle.writer_backend.specs.Output.{asMode, modeOf, outputOf, countIn}
+use Rattle.writer_backend.specs.Output.{asMode, modeOf, isCounting, withNumber, outputOf}
 
-pub counts : (t n : ℕ) → (t ≡ 0 → ⊥) → asMode t n ≡ counting n
-counts zero n q = absurd (q refl)
-counts (suc t) n q = refl
+as-counting : (t n : ℕ) → isCounting (asMode t n) ≡ true → asMode t n ≡ counting n
+as-counting zero n e = absurd (false≢true e)
+as-counting (suc t) n e = refl
 
-module _ (w : WriterBackend) (b : List ℕ) where
-  pub beyond-counting : (w .counting ≡ 0 → ⊥) → 0 ≡ beyond (modeOf w) b
-  beyond-counting e = rw (counts (w .counting) (w .number) e)
+as-writing : (t n : ℕ) → isCounting (asMode t n) ≡ false → asMode t n ≡ writing n
+as-writing zero n e = refl
+as-writing (suc t) n e = absurd (false≢true (sym e))
 
-  pub beyond-within : w .counting ≡ 0 → w .number ≤ length b → 0 ≡ beyond (modeOf w) b
-  beyond-within e h = rw (e, le-leb (w .number) (length b) h)
+-- at another number
+pub as-at : (t n x : ℕ) → asMode t x ≡ withNumber (asMode t n) x
+as-at zero n x = refl
+as-at (suc t) n x = refl
 
-  pub beyond-past : w .counting ≡ 0 → length b < w .number → 9 ≡ beyond (modeOf w) b
-  beyond-past e h = rw (e, lt-leb (w .number) (length b) h)
+-- a remainder of 1 is counting
+pub by-remainder : (t n : ℕ) → t < 2 → eqb t 1 ≡ isCounting (asMode t n)
+by-remainder zero n h = refl
+by-remainder (suc zero) n h = refl
+by-remainder (suc (suc t)) n h = absurd (omega (arith, h))
 
-  module _ (s : List ℕ) where
-    pub put-counts : (w .counting ≡ 0 → ⊥) → (n : ℕ) → length s ≡ n → countIn w b n ≡ put (outputOf w b) s
-    put-counts e n l = rw (counts (w .counting) (w .number) e, counts (w .counting) (w .number + n) e, l)
+-- the mode that `is_counting` tells
+module _ (w : WriterBackend) {r : Bool} (e : r ≡ isCounting (modeOf w)) where
+  pub counts : r ≡ true → modeOf w ≡ counting (w .number)
+  counts t = as-counting (w .mode % 2) (w .number) (sym e ∙ t)
 
-    -- a cursor past the bytes has no room
-    pub put-past : w .counting ≡ 0 → length b < w .number → to (modeOf w) b 1 ≡ put (outputOf w b) s
-    unfolding placed
-    put-past e h = rw (e, lt-ltb (length b) (w .number + length s) (omega arith), splice-nil)
+  pub writes : r ≡ false → modeOf w ≡ writing (w .number)
+  writes t = as-writing (w .mode % 2) (w .number) (sym e ∙ t)
 
-    pub put-writes : w .counting ≡ 0 → w .number ≤ length b → wrote (putText b (w .number) s) ≡ put (outputOf w b) s
-    put-writes e h = rw (e, ← put-placed b (w .number) s h)
+  pub counts-at : r ≡ true → {m : Mode} (x : ℕ) → m ≡ withNumber (modeOf w) x → m ≡ counting x
+  counts-at t x q = q ∙ rw (counts t)
+
+module _ (w : WriterBackend) (b : List ℕ) (e : modeOf w ≡ writing (w .number)) (s : List ℕ) where
+  -- a cursor past the bytes has no room
+  pub put-past : length b < w .number → to (modeOf w) b 1 ≡ put (outputOf w b) s
+  unfolding placed
+  put-past h = rw (e, lt-ltb (length b) (w .number + length s) (omega arith), splice-nil)
+
+  pub put-writes : w .number ≤ length b → wrote (putText b (w .number) s) ≡ put (outputOf w b) s
+  put-writes h = rw (e, ← put-placed b (w .number) s h)

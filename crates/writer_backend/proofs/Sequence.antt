@@ -7,18 +7,16 @@ use native.Mathlib.Nat.{add-zero, add-assoc}
 use native.Mathlib.Omega.{arith}
 use lib.ListN.{length}
 use borrow.Author.Tests.{le-ltb}
-use Rattle.agreement.specs.declared.Kind.{Kind}
-use Rattle.agreement.specs.declared.Kind.the-variants.{Struct, Tuple, List as ListKind, Set}
-use Rattle.agreement.specs.Call.{Place, suits, emptyClose, plainClose, commaLine, bracket, spaces}
-use Rattle.agreement.specs.Ledger.{separator}
-use Rattle.agreement.specs.Model.{Output, PieceOutcome, counting, to, most, put, hold, goOn, tries, stops, closePieces, placePieces, labelPieces}
+use Rattle.calls.specs.declared.Kind.{Kind}
+use Rattle.calls.specs.declared.Kind.the-variants.{Struct, Tuple, List as ListKind, Set}
+use Rattle.calls.specs.Call.{Place, ofKind, emptyClose, plainClose, commaLine, bracket, spaces, separator, closePieces, placePieces, labelPieces, hold}
+use Rattle.calls.specs.Model.{Output, PieceOutcome, counting, to, most, put, goOn, tries, stops}
 use Rattle.writer_backend.specs.declared.record.PlaceKind.{PlaceKind}
 use Rattle.writer_backend.specs.declared.record.PlaceKind.the-variants.{Field, Item}
 use Rattle.writer_backend.specs.declared.record.PlaceKind.the-variants as place-kind
 use Rattle.writer_backend.specs.declared.pieces.WriterBackend.{WriterBackend}
 use Rattle.writer_backend.specs.Output.{modeOf}
 use Rattle.writer_backend.specs.Pieces.{tryOn, tryAll, lengthOf, marginPieces, placeOf}
-use Rattle.writer_backend.proofs.Output.{counts}
 
 pub held : (h a : ℕ) → (h ≡ 0 → ⊥) → h ≡ hold h a
 held zero a q = absurd (q refl)
@@ -69,7 +67,7 @@ hold-hold : (a b c : ℕ) → hold (hold a b) c ≡ hold a (hold b c)
 hold-hold zero b c = refl
 hold-hold (suc a) b c = refl
 
-hold-zero : (a : ℕ) → hold a 0 ≡ a
+pub hold-zero : (a : ℕ) → hold a 0 ≡ a
 hold-zero zero = refl
 hold-zero (suc a) = refl
 
@@ -77,14 +75,14 @@ hold-zero (suc a) = refl
 pub tries-one : (d : Output) (s : List ℕ) → put d s ≡ tries d (s ∷ [])
 tries-one d s = λ i. record { answer = sym (hold-zero (put d s .answer)) i; output = put d s .output }
 
--- a kind of place suits a builder by its kind alone
-pub suits-any : (p : PlaceKind) (s : List ℕ) (k : Kind) → suits (placeOf p s) k ≡ suits (placeOf p []) k
-suits-any Field s Struct = refl
-suits-any Field s Tuple = refl
-suits-any Field s ListKind = refl
-suits-any Field s Set = refl
-suits-any Item s k = refl
-suits-any place-kind.Entry s k = refl
+-- whether a place is of the right kind does not depend on a name
+pub kind-any : (p : PlaceKind) (s : List ℕ) (k : Kind) → ofKind (placeOf p s) k ≡ ofKind (placeOf p []) k
+kind-any Field s Struct = refl
+kind-any Field s Tuple = refl
+kind-any Field s ListKind = refl
+kind-any Field s Set = refl
+kind-any Item s k = refl
+kind-any place-kind.Entry s k = refl
 
 -- what goes before a field or an entry: the separator, the margin, the label
 module _ (k : Kind) (n : ℕ) (x : Place) where
@@ -129,9 +127,9 @@ unfolding tryOn
 counted n b a [] h = rw add-zero
 counted n b a (s ∷ ss) h = rw (le-ltb most (n + length s) (omega arith), hold-zero a, counted (n + length s) b a ss (omega arith), add-assoc)
 
-pub tries-count : (w : WriterBackend) (b : List ℕ) (a : ℕ) (ss : List (List ℕ)) → (w .counting ≡ 0 → ⊥) → {n : ℕ} → n ≡ lengthOf ss → w .number + n ≤ most
-    → to (modeOf (record { counting = w .counting; number = w .number + n })) b a ≡ tryAll (to (modeOf w) b a) ss
-tries-count w b a ss e l h = rw (counts (w .counting) (w .number) e, counts _ _ e, counted (w .number) b a ss (omega arith), l)
+pub tries-count : (w : WriterBackend) (b : List ℕ) (a : ℕ) (ss : List (List ℕ)) → modeOf w ≡ counting (w .number) → {n : ℕ} → n ≡ lengthOf ss → w .number + n ≤ most
+    → to (counting (w .number + n)) b a ≡ tryAll (to (modeOf w) b a) ss
+tries-count w b a ss e l h = rw (e, counted (w .number) b a ss (omega arith), l)
 
 -- pieces tried from a refusal already held are the model's, with that refusal first
 pub tried : (a : ℕ) (d : Output) (ss : List (List ℕ)) → tryAll (record { answer = a; output = d }) ss ≡ record { answer = hold a (tries d ss .answer); output = tries d ss .output }

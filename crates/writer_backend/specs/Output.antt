@@ -1,22 +1,29 @@
 -- The model's output that a WriterBackend and the lent bytes are.
-use mathlib.Core.Bool.{cond}
+use mathlib.Core.Bool.{Bool, true, false}
 use mathlib.Core.List.{List}
-use Prim.Native.Nat.{ℕ, zero, suc, _+_}
-use lib.Dec.{ltb}
-use Rattle.error.specs.declared.Answer.the-variants.{Done, CountTooLarge}
-use Rattle.error.specs.Answer.{numberOf}
-use Rattle.agreement.specs.Model.{Mode, counting, writing, Output, PieceOutcome, to, most}
+use Prim.Native.Nat.{ℕ, zero, suc, _%_}
+use Rattle.calls.specs.Model.{Mode, counting, writing, Output, PieceOutcome}
 use Rattle.writer_backend.specs.declared.pieces.WriterBackend.{WriterBackend}
 use Rattle.writer_backend.specs.declared.pieces.Wrote.{Wrote}
 
--- Document 01, 'Rust forms that cannot come along': a by-value mode with number; docs/DECISIONS.md, 'The formatter': 0 is writing, any other number counting
+-- Document 01, 'Rust forms that cannot come along': a by-value mode with number; docs/DECISIONS.md, 'The formatter': remainder 0 is writing, 1 is counting; a third kind would be a further remainder
 abbrev pub asMode : ℕ → ℕ → Mode
 asMode zero n = writing n
 asMode (suc t) n = counting n
 
--- Document 01, 'Rust forms that cannot come along': the mode of a WriterBackend
+-- Document 01, 'Rust forms that cannot come along': the mode of a WriterBackend, by its number's remainder, so that every number is a mode
 abbrev pub modeOf : WriterBackend → Mode
-modeOf w = asMode (w .counting) (w .number)
+modeOf w = asMode (w .mode % 2) (w .number)
+
+-- Document 01, 'A nested record': whether a run is a counting one
+abbrev pub isCounting : Mode → Bool
+isCounting (counting n) = true
+isCounting (writing p) = false
+
+-- Document 01, 'A nested record': the same run with another total or cursor
+abbrev pub withNumber : Mode → ℕ → Mode
+withNumber (counting n) x = counting x
+withNumber (writing p) x = writing x
 
 -- Document 01, 'Rust forms that cannot come along': the buffer lent beside it
 abbrev pub outputOf : WriterBackend → List ℕ → Output
@@ -25,9 +32,3 @@ outputOf w b = record { mode = modeOf w; bytes = b }
 -- Document 01, 'A nested record': what a piece answers, with the bytes as they are then
 abbrev pub putOut : Wrote → List ℕ → PieceOutcome
 putOut r b = record { answer = r .answer; output = outputOf (r .mode) b }
-
--- Document 01, 'The answer to a call', 6: a length added to a total
-abbrev pub countIn : WriterBackend → List ℕ → ℕ → PieceOutcome
-countIn w b n =
-    cond (ltb most (w .number + n)) (record { answer = numberOf CountTooLarge; output = outputOf w b })
-    (record { answer = numberOf Done; output = outputOf (record { counting = w .counting; number = w .number + n }) b })

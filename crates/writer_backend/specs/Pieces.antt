@@ -3,8 +3,8 @@ use mathlib.Core.Bool.{Bool, true, false}
 use mathlib.Core.List.{List, [], _∷_}
 use Prim.Native.Nat.{ℕ, _+_}
 use lib.ListN.{length}
-use Rattle.agreement.specs.Call.{Place, field, item, entry, spaces}
-use Rattle.agreement.specs.Model.{PieceOutcome, put, hold}
+use Rattle.calls.specs.Call.{Place, field, item, entry, spaces, hold}
+use Rattle.calls.specs.Model.{PieceOutcome, put}
 use Rattle.writer_backend.specs.declared.record.PlaceKind.{PlaceKind}
 use Rattle.writer_backend.specs.declared.record.PlaceKind.the-variants.{Field, Item}
 use Rattle.writer_backend.specs.declared.record.PlaceKind.the-variants as place-kind

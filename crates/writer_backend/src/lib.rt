@@ -7,6 +7,7 @@ mod words;
 pub use pieces::WriterBackend;
 pub use pieces::Wrote;
 pub use pieces::add_len;
+pub use pieces::answered;
 pub use pieces::from_written;
 pub use pieces::past;
 pub use pieces::put;

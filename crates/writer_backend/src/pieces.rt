@@ -1,22 +1,71 @@
 // A piece of text counted or written, and pieces tried one after another.
 ghost use mathlib.Core.Path.{_≡_};
-ghost use mathlib.Core.List.{List};
+ghost use mathlib.Core.Bool.{true, false};
+ghost use mathlib.Core.List.{List, []};
 ghost use Prim.Native.Nat.{ℕ};
-ghost use Rattle.agreement.specs.Call.{spaces};
-ghost use Rattle.agreement.specs.Model.{beyond, hold};
-ghost use Rattle.agreement.specs.Model.{put as putText, wrote as wroteText};
+ghost use lib.ListN.{length};
+ghost use Rattle.calls.specs.Call.{spaces, hold};
+ghost use Rattle.calls.specs.Model.{counting, writing, to, beyond, putIn};
+ghost use Rattle.calls.specs.Model.{put as putText, wrote as wroteText};
+ghost use Rattle.error.specs.Answer.{numberOf};
 ghost use Rattle.str_writer.specs.Write.{outcome};
-ghost use Rattle.writer_backend.specs.Output.{modeOf, outputOf, putOut, countIn};
+ghost use Rattle.writer_backend.specs.Output.{modeOf, isCounting, withNumber, outputOf, putOut};
 ghost use Rattle.writer_backend.specs.Pieces.{tryOn};
 ghost use Rattle.writer_backend.specs.Words.{textOfWord};
 use crate::words::Word;
+use error::Answer;
 use str_writer::Written;
+use str_writer::cursor_fault;
 use utils::slice_up_to_len;
 
-// counting is 0 where text is written: then number is the cursor. Otherwise number is the total.
+// The modes of a WriterBackend.
+const WRITING: u64 = 0;
+
+const COUNTING: u64 = 1;
+
+// The number is the cursor where text is written, the total where it is counted.
 pub struct WriterBackend {
-    pub counting: u64,
+    pub mode: u64,
     pub number: usize,
+}
+
+impl WriterBackend {
+    // Text is counted from this total on.
+    pub fn counting(total: usize) -> Self
+        ensures { λ r. ⌜ modeOf r ≡ counting total ⌝ }
+    {
+        WriterBackend {
+            mode: COUNTING,
+            number: total,
+        }
+    }
+
+    // Text is written at this cursor.
+    pub fn writing(cursor: usize) -> Self
+        ensures { λ r. ⌜ modeOf r ≡ writing cursor ⌝ }
+    {
+        WriterBackend {
+            mode: WRITING,
+            number: cursor,
+        }
+    }
+
+    // The same with another total or cursor.
+    pub fn moved_to(self, number: usize) -> Self
+        ensures { λ r. ⌜ modeOf r ≡ withNumber (modeOf self) number ⌝ }
+    {
+        WriterBackend {
+            mode: self.mode,
+            number,
+        }
+    }
+
+    // Whether text is counted.
+    pub fn is_counting(self) -> bool
+        ensures { λ r. ⌜ r ≡ isCounting (modeOf self) ⌝ }
+    {
+        self.mode % 2 == COUNTING
+    }
 }
 
 // What a piece answers, by document 01's number, and the output then.
@@ -29,74 +78,69 @@ pub struct Wrote {
 pub fn past(m: WriterBackend, buf: &[u8]) -> u8
     ensures { λ r. ⌜ r ≡ beyond (modeOf m) (now (buf .entry)) ⌝ }
 {
-    if m.counting != 0 {
-        return 0;
+    if m.is_counting() {
+        return Answer::Done.number();
     }
-    if m.number <= buf.len() {
-        return 0;
+    cursor_fault(buf.len(), m.number).number()
+}
+
+// An answer, and the output as it is.
+pub fn answered(m: WriterBackend, answer: Answer) -> Wrote
+    ensures { λ r. ⌜ ((b : List ℕ) → putOut r b ≡ to (modeOf m) b (numberOf answer)) ⌝ }
+{
+    Wrote {
+        answer: answer.number(),
+        mode: m,
     }
-    9
 }
 
 // The length of a piece added to the total, or 6 where it would pass 2^64 - 1.
 pub fn add_len(m: WriterBackend, len: usize) -> Wrote
-    ensures { λ r. ⌜ ((b : List ℕ) → putOut r b ≡ countIn m b len) ⌝ }
+    ensures { λ r. ⌜ ((b t : List ℕ) → isCounting (modeOf m) ≡ true → len ≡ length t → putOut r b ≡ putIn (modeOf m) b t (λ n. [])) ⌝ }
 {
-    let n = m.number;
-    if len <= usize::MAX - n {
-        return Wrote {
-            answer: 0,
-            mode: WriterBackend {
-                counting: m.counting,
-                number: n + len,
-            },
-        };
+    let total = m.number;
+    if len <= usize::MAX - total {
+        return answered(m.moved_to(total + len), Answer::Done);
     }
-    Wrote { answer: 6, mode: m }
+    answered(m, Answer::CountTooLarge)
 }
 
 // What a single write answered, as that of a piece.
-pub fn from_written(w: Written) -> Wrote
-    ensures { λ r. ⌜ ((b : List ℕ) → putOut r b ≡ wroteText (outcome w b)) ⌝ }
+pub fn from_written(m: WriterBackend, w: Written) -> Wrote
+    ensures { λ r. ⌜ ((b : List ℕ) → isCounting (modeOf m) ≡ false → putOut r b ≡ wroteText (outcome w b)) ⌝ }
 {
     let answer = w.answer;
-    Wrote {
-        answer: answer.number(),
-        mode: WriterBackend {
-            counting: 0,
-            number: w.at,
-        },
-    }
+    answered(m.moved_to(w.at), answer)
 }
 
 // A piece: counted, or written at the cursor. A cursor past the bytes has no room.
 pub fn put(m: WriterBackend, buf: &mut [u8], s: &[u8]) -> Wrote
     ensures { λ r. ⌜ putOut r (now (buf .exit)) ≡ putText (outputOf m (now (buf .entry))) (now (s .entry)) ⌝ }
 {
-    if m.counting != 0 {
+    let n = m.number;
+    if m.is_counting() {
         return add_len(m, s.len());
     }
-    let n = m.number;
     if buf.len() < n {
-        return Wrote { answer: 1, mode: m };
+        return answered(m, Answer::NotEnoughSpace);
     }
     let w = str_writer::put(buf, n, s);
-    from_written(w)
+    from_written(m, w)
 }
 
 // k spaces as a piece.
 pub fn put_spaces(m: WriterBackend, buf: &mut [u8], k: usize) -> Wrote
     ensures { λ r. ⌜ putOut r (now (buf .exit)) ≡ putText (outputOf m (now (buf .entry))) (spaces k) ⌝ }
 {
-    if m.counting != 0 {
+    let n = m.number;
+    if m.is_counting() {
         return add_len(m, k);
     }
-    let n = m.number;
     if buf.len() < n {
-        return Wrote { answer: 1, mode: m };
+        return answered(m, Answer::NotEnoughSpace);
     }
     let w = str_writer::write_ascii_repeated(buf, n, b' ', k);
-    from_written(w)
+    from_written(m, w)
 }
 
 pub fn put_word(m: WriterBackend, buf: &mut [u8], w: Word) -> Wrote
@@ -111,7 +155,7 @@ pub fn put_word(m: WriterBackend, buf: &mut [u8], w: Word) -> Wrote
 fn first(held: u8, answer: u8) -> u8
     ensures { λ r. ⌜ r ≡ hold held answer ⌝ }
 {
-    if held == 0 {
+    if held == Answer::Done.number() {
         return answer;
     }
     held

@@ -1,15 +1,17 @@
 // The pieces of an opening, of a field or an entry, and of a finish.
 ghost use mathlib.Core.Path.{_≡_};
+ghost use mathlib.Core.Bool.{Bool};
 ghost use mathlib.Core.List.{[]};
-ghost use Prim.Native.Nat.{_+_, _≤_};
+ghost use Prim.Native.Nat.{ℕ, _+_, _≤_};
 ghost use lib.ListN.{length};
 ghost use Rattle.utf8.specs.Utf8.{wellFormed};
-ghost use Rattle.agreement.specs.Call.{nameOf, placeName, suits, placeFault};
-ghost use Rattle.agreement.specs.Model.{stops, tries, closePieces, placePieces, labelPieces, namePieces};
+ghost use Rattle.calls.specs.Call.{nameOf, placeName, ofKind, place, aBuilder, callFault, openPieces, placePieces, labelPieces, closePieces};
+ghost use Rattle.calls.specs.Model.{stops, tries};
 ghost use Rattle.writer_backend.specs.Output.{outputOf, putOut};
 ghost use Rattle.writer_backend.specs.Pieces.{tryAll, lengthOf, marginPieces, placeOf};
 use crate::pieces::WriterBackend;
 use crate::pieces::Wrote;
+use crate::pieces::answered;
 use crate::pieces::put;
 use crate::pieces::put_spaces;
 use crate::pieces::put_word;
@@ -21,7 +23,8 @@ use crate::words::empty_close;
 use crate::words::plain_close;
 use crate::words::separator_len;
 use crate::words::separator_of;
-use agreement::Kind;
+use calls::Kind;
+use error::Answer;
 use utf8::is_utf8;
 
 // Where a separator goes: before a field of a struct, one of a tuple, an entry of a list or a set.
@@ -42,12 +45,12 @@ pub fn close(m: WriterBackend, buf: &mut [u8], k: Kind, has: bool, alt: bool, n:
         return put_word(m, buf, plain_close(k));
     }
     let a = put(m, buf, b",\n");
-    if a.answer != 0 {
+    if a.answer != Answer::Done.number() {
         return a;
     }
     let am = a.mode;
     let d = put_spaces(am, buf, n);
-    if d.answer != 0 {
+    if d.answer != Answer::Done.number() {
         return d;
     }
     let dm = d.mode;
@@ -56,13 +59,13 @@ pub fn close(m: WriterBackend, buf: &mut [u8], k: Kind, has: bool, alt: bool, n:
 
 // The name of a struct or a tuple.
 pub fn put_name(m: WriterBackend, buf: &mut [u8], k: Kind, name: &[u8]) -> Wrote
-    ensures { λ r. ⌜ putOut r (now (buf .exit)) ≡ tries (outputOf m (now (buf .entry))) (namePieces k (now (name .entry))) ⌝ }
+    ensures { λ r. ⌜ putOut r (now (buf .exit)) ≡ tries (outputOf m (now (buf .entry))) (openPieces k (now (name .entry))) ⌝ }
 {
     match k {
         Kind::Struct => put(m, buf, name),
         Kind::Tuple => put(m, buf, name),
-        Kind::List => Wrote { answer: 0, mode: m },
-        Kind::Set => Wrote { answer: 0, mode: m },
+        Kind::List => answered(m, Answer::Done),
+        Kind::Set => answered(m, Answer::Done),
     }
 }
 
@@ -78,7 +81,7 @@ pub fn is_name(k: Kind, name: &[u8]) -> bool
 }
 
 fn place_kind_suits(p: PlaceKind, k: Kind) -> bool
-    ensures { λ r. ⌜ r ≡ suits (placeOf p []) k ⌝ }
+    ensures { λ r. ⌜ r ≡ ofKind (placeOf p []) k ⌝ }
 {
     match p {
         PlaceKind::Field => match k {
@@ -114,15 +117,15 @@ pub fn is_label(p: PlaceKind, name: &[u8]) -> bool
 
 // 8, then 4.
 pub fn place_fault(p: PlaceKind, k: Kind, name: &[u8]) -> u8
-    ensures { λ r. ⌜ r ≡ placeFault (placeOf p (now (name .entry))) k ⌝ }
+    ensures { λ r. ⌜ ((ready : Bool) (depth margin : ℕ) → r ≡ callFault (aBuilder k ready) depth margin (place (placeOf p (now (name .entry))))) ⌝ }
 {
     if !place_kind_suits(p, k) {
-        return 8;
+        return Answer::WrongCall.number();
     }
     if !is_label(p, name) {
-        return 4;
+        return Answer::NotUtf8.number();
     }
-    0
+    Answer::Done.number()
 }
 
 fn label(t: Wrote, buf: &mut [u8], p: PlaceKind, name: &[u8]) -> Wrote
@@ -189,16 +192,13 @@ pub fn place_pieces(
     ensures { λ r. ⌜ putOut r (now (buf .exit)) ≡ tryAll (putOut t (now (buf .entry))) (placePieces k has alt margin (placeOf p (now (name .entry)))) ⌝ }
 {
     let m = t.mode;
-    if m.counting != 0 {
+    if m.is_counting() {
         let len = place_len(k, has, alt, margin, p, name);
         let number = m.number;
         if len <= usize::MAX - number {
             return Wrote {
                 answer: t.answer,
-                mode: WriterBackend {
-                    counting: m.counting,
-                    number: number + len,
-                },
+                mode: m.moved_to(number + len),
             };
         }
     }

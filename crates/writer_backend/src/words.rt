@@ -3,10 +3,9 @@ ghost use mathlib.Core.Path.{_≡_};
 ghost use mathlib.Core.Bool.{true, false, cond};
 ghost use Prim.Native.Nat.{_≤_};
 ghost use lib.ListN.{length};
-ghost use Rattle.agreement.specs.Call.{bracket, plainClose, emptyClose, firstSep, laterSep};
-ghost use Rattle.agreement.specs.Ledger.{separator};
+ghost use Rattle.calls.specs.Call.{bracket, plainClose, emptyClose, firstSep, laterSep, separator};
 ghost use Rattle.writer_backend.specs.Words.{textOfWord};
-use agreement::Kind;
+use calls::Kind;
 
 // Up to three bytes.
 pub struct Word {

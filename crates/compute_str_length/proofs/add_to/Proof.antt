@@ -2,7 +2,7 @@ use borrow.Author.Tests.{lt-ltb, le-ltb}
 use Prim.Native.Nat.{_+_}
 use native.Mathlib.Omega.{arith}
 use borrow.Author.Needs.{needs}
-use Rattle.agreement.specs.Model.{most}
+use Rattle.calls.specs.Model.{most}
 use Rattle.compute_str_length.specs.Total.{addTo}
 use Rattle.compute_str_length.proofs.add_to.Statement.{statement}
 use Rattle.compute_str_length.proofs.add_to.Tie as tie

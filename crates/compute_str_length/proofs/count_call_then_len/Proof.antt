@@ -42,17 +42,17 @@ use denote.Triple.Table.{entered, cited}
 use denote.Triple.Walked.{says, Stays, gave-ref, stay-none, stay-none-slice, walkOf, goes-none, goes-gave-ref, goes-none-slice, Walks, ends-at, walked, walk-meets}
 use denote.Triple.Clauses.{ensured, lasts}
 use denote.Exit.{yes}
-use Rattle.agreement.specs.Model.{Out}
+use Rattle.calls.specs.Model.{Out}
 use Rattle.formatter.specs.declared.head.Head.{Head}
 use Rattle.formatter.specs.declared.head.HeadStep.{HeadStep}
 use Rattle.formatter.proofs.head.Head as D
 use Rattle.formatter.proofs.head.Head.Laws as D′
 use Rattle.formatter.proofs.head.HeadStep as S
 use Rattle.formatter.proofs.head.HeadStep.Laws as S′
-use Rattle.encoded_call.specs.declared.Op.{Op}
-use Rattle.encoded_call.specs.Encoding.{callOf, stepOr}
-use Rattle.encoded_call.proofs.Op as O
-use Rattle.encoded_call.proofs.Op.Laws as O′
+use Rattle.formatter.specs.declared.dispatch.Op.{Op}
+use Rattle.formatter.specs.Calls.{callOf, stepOr}
+use Rattle.formatter.proofs.dispatch.Op as O
+use Rattle.formatter.proofs.dispatch.Op.Laws as O′
 use Rattle.compute_str_length.specs.declared.ComputeStrLength.{ComputeStrLength}
 use Rattle.compute_str_length.specs.declared.CountedCall.{CountedCall}
 use Rattle.compute_str_length.specs.Total.{countingAt, CountsCall}

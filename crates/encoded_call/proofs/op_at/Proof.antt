@@ -1,7 +1,7 @@
 use borrow.Author.Needs.{needs}
 use mathlib.Core.Path.{ap}
 use borrow.Author.Tests.{lt-ltb, le-ltb, ne-eqb}
-use Rattle.encoded_call.specs.declared.Op.the-variants.{Sub}
+use Rattle.formatter.specs.declared.dispatch.Op.the-variants.{Sub}
 use Rattle.encoded_call.specs.Encoding.{opAt}
 use Rattle.encoded_call.proofs.op_at.Statement.{statement}
 use Rattle.encoded_call.proofs.op_at.Tie as tie
@@ -44,7 +44,9 @@ returns-9 c = rw (c .before .if9 .taken, le-ltb _ _ (c .if10 .taken))
 
 returns-10 : tie.Need-returns-10
 unfolding opAt
-returns-10 c = rw (c .before .before .if9 .taken, lt-ltb _ _ (c .before .if10 .left)) (ap Sub (c .flags-of .ensures))
+returns-10 c =
+    let at-if9 = c .before .before in
+    rw (at-if9 .if9 .taken, lt-ltb _ _ (c .before .if10 .left)) (ap Sub (c .flags-of .ensures))
 
 returns-11 : tie.Need-returns-11
 unfolding opAt
@@ -52,7 +54,17 @@ returns-11 c = rw (c .if11 .taken)
 
 returns-12 : tie.Need-returns-12
 unfolding opAt
-returns-12 c = simp (ne-eqb _ _ (c .before .before .before .before .before .before .before .before .before .before .if1 .left), ne-eqb _ _ (c .before .before .before .before .before .before .before .before .before .if2 .left), ne-eqb _ _ (c .before .before .before .before .before .before .before .before .if3 .left), ne-eqb _ _ (c .before .before .before .before .before .before .before .if4 .left), ne-eqb _ _ (c .before .before .before .before .before .before .if5 .left), ne-eqb _ _ (c .before .before .before .before .before .if6 .left), ne-eqb _ _ (c .before .before .before .before .if7 .left), ne-eqb _ _ (c .before .before .before .if8 .left), ne-eqb _ _ (c .before .before .if9 .left), ne-eqb _ _ (c .before .if11 .left)) (c .value-op .ensures)
+returns-12 c =
+    let at-if9 = c .before .before in
+    let at-if8 = at-if9 .before in
+    let at-if7 = at-if8 .before in
+    let at-if6 = at-if7 .before in
+    let at-if5 = at-if6 .before in
+    let at-if4 = at-if5 .before in
+    let at-if3 = at-if4 .before in
+    let at-if2 = at-if3 .before in
+    let at-if1 = at-if2 .before in
+    simp (ne-eqb _ _ (at-if1 .if1 .left), ne-eqb _ _ (at-if2 .if2 .left), ne-eqb _ _ (at-if3 .if3 .left), ne-eqb _ _ (at-if4 .if4 .left), ne-eqb _ _ (at-if5 .if5 .left), ne-eqb _ _ (at-if6 .if6 .left), ne-eqb _ _ (at-if7 .if7 .left), ne-eqb _ _ (at-if8 .if8 .left), ne-eqb _ _ (at-if9 .if9 .left), ne-eqb _ _ (c .before .if11 .left)) (c .value-op .ensures)
 
 pub op-at-spec : {M : Type 1} → statement M
 op-at-spec = tie.close (tie.spec returns returns-2 returns-3 returns-4 returns-5 returns-6 returns-7 returns-8 returns-9 (λ c κs. search needs) returns-10 returns-11 (λ c κs. search needs) returns-12)

@@ -50,7 +50,17 @@ returns-11 c = rw (c .before .if11 .taken) (c .integer-at2 .ensures)
 
 returns-12 : tie.Need-returns-12
 unfolding valueAt
-returns-12 c = simp (ne-eqb _ _ (c .before .before .before .before .before .before .before .before .before .before .if1 .left), ne-eqb _ _ (c .before .before .before .before .before .before .before .before .before .if2 .left), ne-eqb _ _ (c .before .before .before .before .before .before .before .before .if3 .left), ne-eqb _ _ (c .before .before .before .before .before .before .before .if4 .left), ne-eqb _ _ (c .before .before .before .before .before .before .if5 .left), ne-eqb _ _ (c .before .before .before .before .before .if6 .left), ne-eqb _ _ (c .before .before .before .before .if7 .left), ne-eqb _ _ (c .before .before .before .if8 .left), ne-eqb _ _ (c .before .before .if9 .left), ne-eqb _ _ (c .before .if10 .left), ne-eqb _ _ (c .if11 .left))
+returns-12 c =
+    let at-if9 = c .before .before in
+    let at-if8 = at-if9 .before in
+    let at-if7 = at-if8 .before in
+    let at-if6 = at-if7 .before in
+    let at-if5 = at-if6 .before in
+    let at-if4 = at-if5 .before in
+    let at-if3 = at-if4 .before in
+    let at-if2 = at-if3 .before in
+    let at-if1 = at-if2 .before in
+    simp (ne-eqb _ _ (at-if1 .if1 .left), ne-eqb _ _ (at-if2 .if2 .left), ne-eqb _ _ (at-if3 .if3 .left), ne-eqb _ _ (at-if4 .if4 .left), ne-eqb _ _ (at-if5 .if5 .left), ne-eqb _ _ (at-if6 .if6 .left), ne-eqb _ _ (at-if7 .if7 .left), ne-eqb _ _ (at-if8 .if8 .left), ne-eqb _ _ (at-if9 .if9 .left), ne-eqb _ _ (c .before .if10 .left), ne-eqb _ _ (c .if11 .left))
 
 pub value-op-spec : {M : Type 1} → statement M
 value-op-spec = tie.close (tie.spec returns returns-2 returns-3 returns-4 (λ c κs. search needs) returns-5 (λ c κs. search needs) returns-6 (λ c κs. search needs) returns-7 (λ c κs. search needs) returns-8 (λ c κs. search needs) returns-9 (λ c κs. search needs) returns-10 (λ c κs. search needs) returns-11 returns-12)

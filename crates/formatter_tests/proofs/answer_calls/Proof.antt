@@ -14,13 +14,17 @@ abbrev μ-loop : tie.MeasureT-loop
 
 loop-less : tie.Need-loop-less Inv-loop μ-loop
 loop-less c =
-    let at-play = c .before .before .before .before .before .before .before .before .before .before .before .before .before .before in
-    omega (arith, at-play .before .before .before .before .before .before .before .before .before .loop-test .taken)
+    let at-put = c .before .before .before .before .before .before in
+    let at-play = at-put .before .before .before .before .before .before .before .before in
+    let at-index-of = at-play .before .before .before .before .before .before in
+    omega (arith, at-index-of .before .before .before .loop-test .taken)
 
 loop-again : tie.Need-loop-again Inv-loop μ-loop
 loop-again c =
-    let at-play = c .before .before .before .before .before .before .before .before .before .before .before .before .before .before in
-    let holds = at-play .before .before .before .before .before .before .before .before .before .before .loop .inv in
+    let at-put = c .before .before .before .before .before .before in
+    let at-play = at-put .before .before .before .before .before .before .before .before in
+    let at-index-of = at-play .before .before .before .before .before .before in
+    let holds = at-index-of .before .before .before .before .loop .inv in
     (search (needs, holds .0), omega (arith, holds .1), search (needs, holds .2), search (needs, holds .3))
 
 pub answer-calls-spec : {M : Type 1} → statement M

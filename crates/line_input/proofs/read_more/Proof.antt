@@ -20,22 +20,26 @@ part-read-start c =
 
 sub-count : tie.Need-sub-count
 sub-count c =
-    let s = c .before .before .before .before .before .before .shift in
-    let a = c .before .before .before .before .before .before .before .before .before .args in
+    let at-shift = c .before .before .before .before .before .before in
+    let s = at-shift .shift in
+    let a = at-shift .before .before .before .args in
     omega (arith, moved-fits (a .r) (a .space .now) (s .last .0) (s .result) (s .ensures .0) (s .ensures .1))
 
 part-count-start : tie.Need-part-count-start
 part-count-start c =
-    let s = c .before .before .before .before .before .before .before .shift in
-    let a = c .before .before .before .before .before .before .before .before .before .before .args in
+    let at-shift = c .before .before .before .before .before .before .before in
+    let s = at-shift .shift in
+    let a = at-shift .before .before .before .args in
     omega (arith, moved-fits (a .r) (a .space .now) (s .last .0) (s .result) (s .ensures .0) (s .ensures .1))
 
 returns : tie.Need-returns
 returns c =
-    let s = c .before .before .before .before .before .before .before .before .before .shift in
-    let a = c .before .before .before .before .before .before .before .before .before .before .before .before .args in
+    let at-read = c .before .before .before .before .before in
+    let at-shift = at-read .before .before .before .before in
+    let s = at-shift .shift in
+    let a = at-shift .before .before .before .args in
     let h = moved-fits (a .r) (a .space .now) (s .last .0) (s .result) (s .ensures .0) (s .ensures .1) in
-    more (a .r) (a .space .now) (s .last .0) (c .before .before .before .before .before .read .last .1 .0) (s .result) (c .count .result) (length (s .last .0) - s .result) (s .ensures .0) (moved-first (a .r) (a .space .now) (s .last .0) (s .result) (s .ensures .0) (s .ensures .1)) h (search needs)
+    more (a .r) (a .space .now) (s .last .0) (at-read .read .last .1 .0) (s .result) (c .count .result) (length (s .last .0) - s .result) (s .ensures .0) (moved-first (a .r) (a .space .now) (s .last .0) (s .result) (s .ensures .0) (s .ensures .1)) h (search needs)
 
 pub read-more-spec : {M : Type 1} → statement M
 read-more-spec =

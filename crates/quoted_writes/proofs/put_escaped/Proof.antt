@@ -38,9 +38,10 @@ same-length c = search needs
 
 returns : tie.Need-returns Inv-loop μ-loop
 returns c =
-    let a = c .before .before .before .before .before .before .before .before .before .before .args in
-    let l = c .before .before .before .before .before .before .before .loop in
-    let h = c .before .before .before .before .before .before .loop-test .taken in
+    let turn = c .before .before .before .before .before .before in
+    let a = turn .before .before .before .before .args in
+    let l = turn .before .loop in
+    let h = turn .loop-test .taken in
     let o : l .rest < costOf (getD (a .s .now) (l .i) 0) = zero-over _ _ _ _ (c .before .before .before .put-escape .ensures .0) (byte-some _) (c .if1 .taken) in
     let over : length (a .s .now) + a .left < length (escaped (a .s .now)) =
     omega (arith, escaped-turn (a .s .now) (l .i) h, escaped-long (drop (l .i + 1) (a .s .now)), length-drop (l .i + 1) (a .s .now)) in
@@ -48,8 +49,9 @@ returns c =
 
 -- past the test the escape fits, and its length was given
 took : (c : tie.Else1 Inv-loop μ-loop) →
-    let b = getD (c .before .before .before .before .before .before .before .before .before .before .args .s .now) (c .before .before .before .before .before .before .before .loop .i) 0 in
-    (costOf b ≤ c .before .before .before .before .before .before .before .loop .rest) × (c .before .before .before .put-escape .result ≡ length (byteText b))
+    let held = c .before .before .before .before .before .before .before in
+    let b = getD (held .before .before .before .args .s .now) (held .loop .i) 0 in
+    (costOf b ≤ held .loop .rest) × (c .before .before .before .put-escape .result ≡ length (byteText b))
 took c = some-fits _ _ _ _ (c .before .before .before .put-escape .ensures .0) (c .if1 .left)
 
 add-at : tie.Need-add-at Inv-loop μ-loop
@@ -69,9 +71,10 @@ loop-less c = search needs
 
 loop-again : tie.Need-loop-again Inv-loop μ-loop
 loop-again c =
-    let a = c .before .before .before .before .before .before .before .before .before .before .args in
-    let l = c .before .before .before .before .before .before .before .loop in
-    let h = c .before .before .before .before .before .before .loop-test .taken in
+    let turn = c .before .before .before .before .before .before in
+    let a = turn .before .before .before .before .args in
+    let l = turn .before .loop in
+    let h = turn .loop-test .taken in
     let t = took c in
     let n = escaped-turn (a .s .now) (l .i) h in
     let k = leading-turn (a .s .now) (l .i) h (l .buf) _ (l .at) (l .rest) (c .before .before .before .put-escape .ensures .1) (t .0) (omega arith) in

@@ -1,27 +1,25 @@
-use mathlib.Core.Path.{_≡_, sym, _∙_}
-use mathlib.Core.Bool.{true, false}
+use mathlib.Core.Path.{refl, sym, _∙_}
 use borrow.Author.Tests.{not-true, not-false}
-use Rattle.error.specs.declared.Answer.the-variants.{NotUtf8}
-use Rattle.utf8.specs.Utf8.{wellFormed}
+use borrow.Author.Needs.{needs}
 use Rattle.formatting.specs.Flags.{defaultFlags}
 use Rattle.str_writer.specs.Value.{str, debug, whole}
-use Rattle.str_writer.proofs.Outcomes.{write-bad, write-input}
-use Rattle.str_writer.proofs.Values.{str-fault, whole-part, whole-uncut, str-placed}
-use borrow.Author.Needs.{needs}
+use Rattle.str_writer.proofs.Judging.{judged-whole-str, write-met, whole-quoted}
 use Rattle.quoted_writes.proofs.write_str_debug.Statement.{statement}
 use Rattle.quoted_writes.proofs.write_str_debug.Tie as tie
 
+judge-str-requires : tie.Need-judge-str-requires
+judge-str-requires c κs = search needs
+
+is-done-requires : tie.Need-is-done-requires
+is-done-requires c κs = search needs
+
 returns : tie.Need-returns
-returns c = let a = c .before .before .before .args in write-bad defaultFlags (a .buf .now) (a .at) (str debug (a .s .now) (whole (a .s .now))) (c .if1 .taken)
-
-is-utf8-requires : tie.Need-is-utf8-requires
-is-utf8-requires c κs = search needs
-
-returns-2 : tie.Need-returns-2
-returns-2 c =
-    let a = c .before .before .before .before .before .args in
-    let e : wellFormed (a .s .now) ≡ false = sym (c .before .is-utf8 .ensures) ∙ not-true _ (c .if2 .taken) in
-    write-input defaultFlags (a .buf .now) (a .at) (str debug (a .s .now) (whole (a .s .now))) (c .before .before .if1 .left) NotUtf8 (str-fault debug (a .s .now) (whole (a .s .now)) e)
+returns c =
+    let d = c .before .before in
+    let a = d .before .before .before .args in
+    let s = a .s .now in
+    let e = judged-whole-str (a .buf .now) (a .at) debug s _ (d .judge-str .ensures (a .buf .now) refl debug (whole s)) in
+    write-met defaultFlags (a .buf .now) (a .at) (str debug s (whole s)) _ e (sym (c .before .is-done .ensures) ∙ not-true _ (c .if1 .taken))
 
 put-quoted-requires : tie.Need-put-quoted-requires
 put-quoted-requires c κs = search needs
@@ -29,14 +27,16 @@ put-quoted-requires c κs = search needs
 same-length : tie.Need-same-length
 same-length c = search needs
 
-returns-3 : tie.Need-returns-3
-returns-3 c =
-    let a = c .before .before .before .before .before .before .before .before .before .args in
+returns-2 : tie.Need-returns-2
+returns-2 c =
+    let p = c .before .before .before .before in
+    let d = p .before .before in
+    let a = d .before .before .before .args in
     let s = a .s .now in
-    let e : wellFormed s ≡ true = sym (c .before .before .before .before .before .is-utf8 .ensures) ∙ not-false _ (c .before .before .before .before .if2 .left) in
-    c .before .before .put-quoted .ensures ∙ (rw whole-part at (str-placed defaultFlags (a .buf .now) (a .at) (c .before .before .before .before .before .before .if1 .left) debug s (whole s) e (whole-uncut debug s e)))
+    let e = judged-whole-str (a .buf .now) (a .at) debug s _ (d .judge-str .ensures (a .buf .now) refl debug (whole s)) in
+    whole-quoted defaultFlags (a .buf .now) (a .at) _ s e (sym (p .before .is-done .ensures) ∙ not-false _ (p .if1 .left)) _ (c .before .before .put-quoted .ensures)
 
 pub write-str-debug-spec : {M : Type 1} → statement M
 write-str-debug-spec =
     tie.close
-    (tie.spec returns is-utf8-requires returns-2 put-quoted-requires same-length returns-3)
+    (tie.spec judge-str-requires is-done-requires returns put-quoted-requires same-length returns-2)

@@ -1,95 +1,76 @@
-use mathlib.Core.Path.{_≡_, sym, _∙_}
-use mathlib.Core.Bool.{true, false}
-use native.Mathlib.Omega.{arith}
+use mathlib.Core.Path.{_≡_, refl, sym, _∙_}
 use borrow.Author.Tests.{not-true, not-false}
-use Rattle.error.specs.declared.Answer.the-variants.{NotUtf8, NotOnCharBoundary}
-use Rattle.utf8.specs.Utf8.{wellFormed}
-use Rattle.utils.specs.Text.{saturated, isBoundary}
+use borrow.Author.Needs.{needs}
+use Rattle.error.specs.Answer.{answerOf}
 use Rattle.formatting.specs.Flags.{defaultFlags}
 use Rattle.str_writer.specs.Value.{str, debug}
-use Rattle.str_writer.proofs.Outcomes.{write-bad, write-input, write-cut}
-use Rattle.str_writer.proofs.Values.{str-fault, str-fine, str-cut-start, str-cut-end, str-uncut, clamped-part, str-placed}
-use borrow.Author.Needs.{needs}
+use Rattle.str_writer.specs.Write.{writeFault}
+use Rattle.str_writer.proofs.Judging.{judged-met, judged-cut, write-met, str-quoted}
 use Rattle.quoted_writes.proofs.write_str_range_debug.Statement.{statement}
 use Rattle.quoted_writes.proofs.write_str_range_debug.Tie as tie
 
-returns : tie.Need-returns
-returns c = let a = c .before .before .before .args in write-bad defaultFlags (a .buf .now) (a .at) (str debug (a .s .now) (a .range)) (c .if1 .taken)
+judge-str-requires : tie.Need-judge-str-requires
+judge-str-requires c κs = search needs
 
-is-utf8-requires : tie.Need-is-utf8-requires
-is-utf8-requires c κs = search needs
+is-done-requires : tie.Need-is-done-requires
+is-done-requires c κs = search needs
+
+returns : tie.Need-returns
+returns c =
+    let d = c .before .before in
+    let a = d .before .before .before .args in
+    let v = str debug (a .s .now) (a .range) in
+    let n = sym (c .before .is-done .ensures) ∙ not-true _ (c .if1 .taken) in
+    write-met defaultFlags (a .buf .now) (a .at) v _ (judged-met (a .buf .now) (a .at) v _ (d .judge-str .ensures (a .buf .now) refl debug (a .range)) n) n
+
+range-fault-requires : tie.Need-range-fault-requires
+range-fault-requires c κs = search needs
+
+is-done-requires-2 : tie.Need-is-done-requires-2
+is-done-requires-2 c κs = search needs
+
+-- where the cursor and the text are fine, the range tells
+abbrev start : tie.After-range-fault → tie.Start
+start c = c .before .before .before .before .before .before
+
+told : (c : tie.After-range-fault) →
+    let a = start c .args in
+    c .range-fault .result ≡ answerOf (writeFault (a .buf .now) (a .at) (str debug (a .s .now) (a .range)))
+told c =
+    let p = c .before in
+    let a = start c .args in
+    judged-cut (a .buf .now) (a .at) (str debug (a .s .now) (a .range)) _ (p .before .before .judge-str .ensures (a .buf .now) refl debug (a .range))
+    (sym (p .before .is-done .ensures) ∙ not-false _ (p .if1 .left)) _ (c .range-fault .ensures debug)
 
 returns-2 : tie.Need-returns-2
 returns-2 c =
-    let a = c .before .before .before .before .before .args in
-    let e : wellFormed (a .s .now) ≡ false = sym (c .before .is-utf8 .ensures) ∙ not-true _ (c .if2 .taken) in
-    write-input defaultFlags (a .buf .now) (a .at) (str debug (a .s .now) (a .range)) (c .before .before .if1 .left) NotUtf8 (str-fault debug (a .s .now) (a .range) e)
+    let q = c .before .before in
+    let a = start q .args in
+    write-met defaultFlags (a .buf .now) (a .at) (str debug (a .s .now) (a .range)) _ (told q) (sym (c .before .is-done2 .ensures) ∙ not-true _ (c .if2 .taken))
 
-saturate-range-requires : tie.Need-saturate-range-requires
-saturate-range-requires c κs = search needs
-
-is-char-boundary-requires : tie.Need-is-char-boundary-requires
-is-char-boundary-requires c κs = search needs
-
-returns-3 : tie.Need-returns-3
-returns-3 c =
-    let a = c .before .before .before .before .before .before .before .before .args in
-    let s = a .s .now in
-    let e : wellFormed s ≡ true = sym (c .before .before .before .before .is-utf8 .ensures) ∙ not-false _ (c .before .before .before .if2 .left) in
-    let k : isBoundary s (saturated s (a .range) .start) ≡ false = rw (c .before .before .saturate-range .ensures) at (sym (c .before .is-char-boundary .ensures) ∙ not-true _ (c .if3 .taken)) in
-    write-cut defaultFlags (a .buf .now) (a .at) (str debug s (a .range)) (c .before .before .before .before .before .if1 .left) (str-fine debug s (a .range) e) NotOnCharBoundary (str-cut-start debug s (a .range) k)
-
-is-char-boundary-requires-2 : tie.Need-is-char-boundary-requires-2
-is-char-boundary-requires-2 c κs = search needs
-
-returns-4 : tie.Need-returns-4
-returns-4 c =
-    let a = c .before .before .before .before .before .before .before .before .before .before .args in
-    let s = a .s .now in
-    let e : wellFormed s ≡ true = sym (c .before .before .before .before .before .before .is-utf8 .ensures) ∙ not-false _ (c .before .before .before .before .before .if2 .left) in
-    let k : isBoundary s (saturated s (a .range) .end) ≡ false = rw (c .before .before .before .before .saturate-range .ensures) at (sym (c .before .is-char-boundary2 .ensures) ∙ not-true _ (c .if4 .taken)) in
-    write-cut defaultFlags (a .buf .now) (a .at) (str debug s (a .range)) (c .before .before .before .before .before .before .before .if1 .left) (str-fine debug s (a .range) e) NotOnCharBoundary (str-cut-end debug s (a .range) k)
-
-sub-put-quoted : tie.Need-sub-put-quoted
-sub-put-quoted c = rw (c .before .before .before .before .before .saturate-range .ensures) (omega arith)
-
-part-put-quoted-start : tie.Need-part-put-quoted-start
-part-put-quoted-start c = rw (c .before .before .before .before .before .saturate-range .ensures) (omega arith)
-
-part-put-quoted-end : tie.Need-part-put-quoted-end
-part-put-quoted-end c = rw (c .before .before .before .before .before .saturate-range .ensures) (omega arith)
-
-put-quoted-requires : tie.Need-put-quoted-requires
-put-quoted-requires c κs = search needs
+put-quoted-part-requires : tie.Need-put-quoted-part-requires
+put-quoted-part-requires c κs = search needs
 
 same-length : tie.Need-same-length
 same-length c = search needs
 
-returns-5 : tie.Need-returns-5
-returns-5 c =
-    let a = c .before .before .before .before .before .before .before .before .before .before .before .before .before .before .before .args in
-    let s = a .s .now in
-    let e : wellFormed s ≡ true = sym (c .before .before .before .before .before .before .before .before .before .before .before .is-utf8 .ensures) ∙ not-false _ (c .before .before .before .before .before .before .before .before .before .before .if2 .left) in
-    let g = c .before .before .before .before .before .before .before .before .before .saturate-range .ensures in
-    let k : isBoundary s (saturated s (a .range) .start) ≡ true = rw g at (sym (c .before .before .before .before .before .before .before .before .is-char-boundary .ensures) ∙ not-false _ (c .before .before .before .before .before .before .before .if3 .left)) in
-    let l : isBoundary s (saturated s (a .range) .end) ≡ true = rw g at (sym (c .before .before .before .before .before .before .is-char-boundary2 .ensures) ∙ not-false _ (c .before .before .before .before .before .if4 .left)) in
-    (rw (clamped-part s (a .range) _ g) at (c .before .before .put-quoted .ensures)) ∙ str-placed defaultFlags (a .buf .now) (a .at) (c .before .before .before .before .before .before .before .before .before .before .before .before .if1 .left) debug s (a .range) e (str-uncut debug s (a .range) k l)
+returns-3 : tie.Need-returns-3
+returns-3 c =
+    let p = c .before .before .before .before in
+    let q = p .before .before in
+    let a = start q .args in
+    str-quoted defaultFlags (a .buf .now) (a .at) _ (a .s .now) (a .range) (told q) (sym (p .before .is-done2 .ensures) ∙ not-false _ (p .if2 .left)) _ (c .before .before .put-quoted-part .ensures)
 
 pub write-str-range-debug-spec : {M : Type 1} → statement M
 write-str-range-debug-spec =
     tie.close
     (tie.spec
+    judge-str-requires
+    is-done-requires
     returns
-    is-utf8-requires
+    range-fault-requires
+    is-done-requires-2
     returns-2
-    saturate-range-requires
-    is-char-boundary-requires
-    returns-3
-    is-char-boundary-requires-2
-    returns-4
-    sub-put-quoted
-    part-put-quoted-start
-    part-put-quoted-end
-    put-quoted-requires
+    put-quoted-part-requires
     same-length
-    returns-5)
+    returns-3)

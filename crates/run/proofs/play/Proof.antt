@@ -24,25 +24,34 @@ loop-holds c = (omega arith, omega arith, refl, refl, refl)
 
 add-i : tie.Need-add-i Inv-loop μ-loop
 add-i c =
-    let at-test = c .before .before .before .before .before .before .before .before .before .before .before .before .before .before .before .before .before .before in
-    omega (arith, at-test .loop-test .taken, at-test .before .loop .inv .1, at-test .before .before .before .before .before .before .before .before .before .good .1 .1 .1 .0)
+    let at-store = c .before .before in
+    let at-call = at-store .before .before .before .before .before .before .before .before in
+    let at-test = at-call .before .before .before .before .before .before .before .before in
+    let at-new = at-test .before .before .before .before in
+    let at-args = at-new .before .before .before .before .before in
+    omega (arith, at-test .loop-test .taken, at-test .before .loop .inv .1, at-args .good .1 .1 .1 .0)
 
 loop-less : tie.Need-loop-less Inv-loop μ-loop
 loop-less c =
-    let at-test = c .before .before .before .before .before .before .before .before .before .before .before .before .before .before .before .before .before .before in
+    let at-store = c .before .before in
+    let at-call = at-store .before .before .before .before .before .before .before .before in
+    let at-test = at-call .before .before .before .before .before .before .before .before in
     omega (arith, at-test .loop-test .taken, at-test .before .loop .inv .1)
 
 loop-again : tie.Need-loop-again Inv-loop μ-loop
 loop-again c =
-    let at-note = c .before .before .before .before in
+    let at-store = c .before .before in
+    let at-note = at-store .before .before in
     let at-call = at-note .before .before .before .before .before .before in
     let at-test = at-call .before .before .before .before .before .before .before .before in
+    let at-new = at-test .before .before .before .before in
+    let at-args = at-new .before .before .before .before .before in
     let h = at-test .before .loop in
-    let a = at-test .before .before .before .before .before .before .before .before .before .args in
+    let a = at-args .args in
     let l = at-test .loop-test .taken in
     let r = at-call .call-at in
     let f = at-note .note in
-    let t = c .before .before .store in
+    let t = at-store .store in
     let w = a .calls .now in
     let s = a .text .now in
     let i = h .i in
@@ -64,12 +73,15 @@ same-length-2 c =
 
 returns : tie.Need-returns Inv-loop μ-loop
 returns c =
-    let at-loop = c .before .before .before .before .before .before in
+    let at-test = c .before .before .before .before .before in
+    let at-loop = at-test .before in
+    let at-new = at-loop .before .before .before in
+    let at-args = at-new .before .before .before .before .before in
     let h = at-loop .loop in
-    let a = at-loop .before .before .before .before .before .before .before .before .args in
-    let e = rw (decode-end (drop (h .i) (a .calls .now)) (a .text .now) (simp length-drop (omega arith))) at (h .inv .4) in
+    let a = at-args .args in
+    let e = rw (decode-end (drop (h .i) (a .calls .now)) (a .text .now) (simp length-drop (omega (arith, at-test .loop-test .left, h .inv .0, h .inv .1)))) at (h .inv .4) in
     let q = ap (λ (x : ℕ). x / 5) (c .before .before .place-of .ensures) ∙ place-words (h .first) (h .i) (h .place) in
-    play-end (modeOf (a .mode)) (a .buf .now) (a .flags) (decode (a .calls .now) (a .text .now)) (a .answers .now) _ _ (at-loop .before .before .before .new .ensures _ (a .buf .now)) (at-loop .before .past .ensures) (h .first) (h .place / 5) (h .i / 5) (h .answers) (view (h .head) (h .stack) (h .buf)) _ _ q (c .open-entries .ensures (h .stack) (h .buf)) e
+    play-end (modeOf (a .mode)) (a .buf .now) (a .settings) (decode (a .calls .now) (a .text .now)) (a .answers .now) _ _ (at-new .new .ensures _ (a .buf .now)) (at-loop .before .past .ensures) (h .first) (h .place / 5) (h .i / 5) (h .answers) (view (h .head) (h .stack) (h .buf)) _ _ q (c .open-entries .ensures .0 (h .stack) (h .buf)) e
 
 pub play-spec : {M : Type 1} → statement M
 play-spec = tie.close (tie.spec Inv-loop μ-loop (λ c κs. search needs) (λ c κs. search needs) (λ c. omega arith) loop-holds (λ c. search needs) (λ c. search needs) (λ c. search needs) (λ c. search needs) (λ c. search needs) (λ c. search needs) (λ c. search needs) (λ c. search needs) (λ c. search needs) (λ c. search needs) (λ c. search needs) (λ c. search needs) (λ c. search needs) (λ c. search needs) (λ c κs. search needs) (λ c κs. search needs) (λ c κs. search needs) add-i loop-less loop-again (λ c κs. search needs) (λ c κs. search needs) same-length same-length-2 returns)

@@ -4,7 +4,7 @@ use borrow.Author.Tests.{not-true, not-false}
 use borrow.Author.Needs.{needs}
 use Rattle.sheet_line.specs.Line.{callOfLine}
 use Rattle.sheet_line.specs.Reading.{Reading}
-use Rattle.encoded_call.specs.Encoding.{callOf}
+use Rattle.formatter.specs.Calls.{callOf}
 use Rattle.sheet.specs.SheetView.{sheetOf, isSome, steppedOf}
 use Rattle.sheet.proofs.Stepping.{no-call, a-call, answer-bad, answer-call, short-bad, short-call}
 use Rattle.sheet.proofs.answer_line.Statement.{statement}

@@ -20,10 +20,16 @@ returns-4 : tie.Need-returns-4
 returns-4 c = let a = c .before .before .before .before .before .before .before .before .args in not-ready (a .h) (a .buf .now) (a .out .now) (λ R. absurd (omega (arith, R .sized .lends)))
 
 returns-5 : tie.Need-returns-5
-returns-5 c = let a = c .before .before .before .before .before .before .before .before .before .before .args in not-ready (a .h) (a .buf .now) (a .out .now) (λ R. absurd (omega (arith, R .room)))
+returns-5 c =
+    let at-if4 = c .before .before in
+    let a = at-if4 .before .before .before .before .before .before .before .before .args in
+    not-ready (a .h) (a .buf .now) (a .out .now) (λ R. absurd (omega (arith, R .room)))
 
 returns-6 : tie.Need-returns-6
-returns-6 c = let a = c .before .before .before .before .before .before .before .before .before .before .before .before .args in not-ready (a .h) (a .buf .now) (a .out .now) (λ R. absurd (omega (arith, R .room)))
+returns-6 c =
+    let at-if4 = c .before .before .before .before in
+    let a = at-if4 .before .before .before .before .before .before .before .before .args in
+    not-ready (a .h) (a .buf .now) (a .out .now) (λ R. absurd (omega (arith, R .room)))
 
 returns-7 : tie.Need-returns-7
 returns-7 c =

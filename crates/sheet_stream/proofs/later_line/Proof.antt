@@ -5,10 +5,17 @@ use borrow.Author.Needs.{needs}
 use Rattle.sheet_stream.proofs.later_line.Statement.{statement}
 use Rattle.sheet_stream.proofs.later_line.Tie as tie
 
+add-t24 : tie.Need-add-t24
+add-t24 c =
+    let at-answer-line = c .before .before .before .before .before .before in
+    let at-answer-line-arg = at-answer-line .before .before .before .before .before in
+    omega (arith, at-answer-line-arg .before .before .before .before .before .pre .0 .counts)
+
 returns : tie.Need-returns
 returns c =
     let at-answer-line = c .before .before .before .before .before .before in
-    let at-args = at-answer-line .before .before .before .before .before .before .before .before .before .before in
+    let at-answer-line-arg = at-answer-line .before .before .before .before .before in
+    let at-args = at-answer-line-arg .before .before .before .before .before in
     let a = at-args .args in
     let p = at-args .pre in
     let e = at-answer-line .answer-line in (
@@ -24,7 +31,7 @@ later-line-spec =
     (λ c. search needs)
     (λ c. search needs)
     (λ c κs. search needs)
-    (λ c. omega (arith, c .before .before .before .before .before .before .before .before .before .before .before .before .before .before .before .before .pre .0 .counts))
+    add-t24
     (λ c. search needs)
     (λ c. search needs)
     returns)

@@ -2,7 +2,7 @@ use mathlib.Core.Path.{_∙_}
 use mathlib.Core.List.{[]}
 use native.Mathlib.Omega.{arith}
 use borrow.Author.Needs.{needs}
-use Rattle.agreement.specs.Model.{counting}
+use Rattle.calls.specs.Model.{counting}
 use Rattle.table_text.proofs.Flags.{played-by, answers-by, no-answers, count-refused}
 use Rattle.table_text.proofs.count.Statement.{statement}
 use Rattle.table_text.proofs.count.Tie as tie

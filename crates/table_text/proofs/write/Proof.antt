@@ -1,7 +1,7 @@
 use mathlib.Core.Path.{_∙_}
 use native.Mathlib.Omega.{arith}
 use borrow.Author.Needs.{needs}
-use Rattle.agreement.specs.Model.{writing}
+use Rattle.calls.specs.Model.{writing}
 use Rattle.table_text.proofs.Flags.{played-by, answers-by, as-counted, no-answers, none-counted, write-past, write-refused}
 use Rattle.table_text.proofs.write.Statement.{statement}
 use Rattle.table_text.proofs.write.Tie as tie

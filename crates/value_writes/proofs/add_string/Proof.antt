@@ -1,29 +1,43 @@
 use borrow.Author.Needs.{needs}
-use mathlib.Core.Path.{_∙_, ap}
+use mathlib.Core.Path.{refl, _∙_}
+use Rattle.formatting.specs.Escape.{quoted}
 use Rattle.utils.specs.Text.{part}
 use Rattle.str_writer.proofs.Values.{clamped-order}
-use Rattle.writer_backend.specs.Output.{countIn}
+use Rattle.writer_backend.proofs.Output.{counts}
 use Rattle.value_writes.proofs.ValueLaws.{clamped-length, quoted-length, quoted-refused}
 use Rattle.value_writes.proofs.add_string.Statement.{statement}
 use Rattle.value_writes.proofs.add_string.Tie as tie
 
 sub-add-len : tie.Need-sub-add-len
-sub-add-len c = clamped-order (c .before .before .before .before .before .args .s .now) (c .before .before .before .before .before .args .range) (c .before .saturate-range .result) (c .before .saturate-range .ensures)
+sub-add-len c =
+    let at-saturate-range = c .before in
+    let a = at-saturate-range .before .before .before .before .args in
+    clamped-order (a .s .now) (a .range) (at-saturate-range .saturate-range .result) (at-saturate-range .saturate-range .ensures)
 
 returns : tie.Need-returns
-returns c b =
-    let a = c .before .before .before .before .before .args in
-    rw (c .before .before .enum-told2 .given .1) (quoted-refused (part (a .s .now) (a .range)) (c .before .compute-utf8-debug-len-in-range .result) (c .before .compute-utf8-debug-len-in-range .ensures) (a .m) b (c .if1 .taken))
+returns c b t =
+    let at-before = c .before in
+    let at-compute = at-before .before in
+    let at-enum-told2 = at-compute .before in
+    let a = at-enum-told2 .before .before .before .args in
+    let q = at-compute .compute-utf8-debug-len-in-range in
+    rw (at-enum-told2 .enum-told2 .given .1) (c .answered .ensures b ∙ rw (counts (a .m) refl t) (quoted-refused (part (a .s .now) (a .range)) (q .result) (q .ensures) (a .m .number) b (at-before .if1 .taken)))
 
 returns-2 : tie.Need-returns-2
-returns-2 c b =
-    let a = c .before .before .before .before .before .before .args in
-    rw (c .before .before .before .enum-told .given .1) (c .add-len .ensures b ∙ ap (countIn (a .m) b) (clamped-length (a .s .now) (a .range) (c .before .before .saturate-range .result) (c .before .before .saturate-range .ensures)))
+returns-2 c b t =
+    let at-saturate-range = c .before .before in
+    let at-enum-told = at-saturate-range .before in
+    let a = at-enum-told .before .before .before .args in
+    let q = at-saturate-range .saturate-range in
+    rw (at-enum-told .enum-told .given .1) (c .add-len .ensures b (part (a .s .now) (a .range)) t (clamped-length (a .s .now) (a .range) (q .result) (q .ensures)))
 
 returns-3 : tie.Need-returns-3
-returns-3 c b =
-    let a = c .before .before .before .before .before .before .args in
-    rw (c .before .before .before .enum-told2 .given .1) (c .add-len2 .ensures b ∙ ap (countIn (a .m) b) (quoted-length (part (a .s .now) (a .range)) (c .before .before .compute-utf8-debug-len-in-range .result) (c .before .before .compute-utf8-debug-len-in-range .ensures) (c .before .if1 .left)))
+returns-3 c b t =
+    let at-compute = c .before .before in
+    let at-enum-told2 = at-compute .before in
+    let a = at-enum-told2 .before .before .before .args in
+    let q = at-compute .compute-utf8-debug-len-in-range in
+    rw (at-enum-told2 .enum-told2 .given .1) (c .add-len2 .ensures b (quoted (part (a .s .now) (a .range))) t (quoted-length (part (a .s .now) (a .range)) (q .result) (q .ensures) (c .before .if1 .left)))
 
 pub add-string-spec : {M : Type 1} → statement M
-add-string-spec = tie.close (tie.spec (λ c. search needs) (λ c κs. search needs) sub-add-len (λ c κs. search needs) (λ c. search needs) (λ c κs. search needs) returns (λ c κs. search needs) returns-2 returns-3)
+add-string-spec = tie.close (tie.spec (λ c. search needs) (λ c κs. search needs) sub-add-len (λ c κs. search needs) (λ c. search needs) (λ c κs. search needs) (λ c κs. search needs) returns (λ c κs. search needs) returns-2 returns-3)

@@ -14,10 +14,12 @@ use Rattle.value_writes.proofs.parts_of.Tie as tie
 
 returns : tie.Need-returns
 returns c =
-    let a = c .before .before .before .before .args in
+    let at-flags-for = c .before .before .before in
+    let at-args = at-flags-for .before in
+    let a = at-args .args in
     let x = c .before .x .given in
     let n = x .0 .1 .0 in
-    rw (x .1) (integer-text (formOf (a .form)) (a .flags) (bitsOf (x .0 .0)) (pos n) (record { flags = c .before .before .before .flags-for .result; «is_negative» = false; n = n; bits = n }) (c .before .before .before .flags-for .ensures) refl refl)
+    rw (x .1) (integer-text (formOf (a .form)) (a .flags) (bitsOf (x .0 .0)) (pos n) (record { flags = at-flags-for .flags-for .result; «is_negative» = false; n = n; bits = n }) (at-flags-for .flags-for .ensures) refl refl)
 
 returns-2 : tie.Need-returns-2
 returns-2 c =

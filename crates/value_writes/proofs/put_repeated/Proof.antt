@@ -1,27 +1,32 @@
 use borrow.Author.Needs.{needs}
 use mathlib.Core.Path.{refl, sym, _∙_}
-use Rattle.formatting.specs.Flags.{defaultFlags}
 use Prim.Native.Nat.{_%_}
-use lib.ListN.{length-replicate}
-use Rattle.str_writer.specs.Value.{repeated, textOf}
-use Rattle.str_writer.proofs.Values.{repeated-fine}
-use Rattle.value_writes.proofs.ValueLaws.{value-counts, value-writes}
+use lib.ListN.{replicate, length-replicate}
+use Rattle.error.specs.declared.Answer.the-variants.{Done}
+use Rattle.formatting.specs.Flags.{defaultFlags}
+use Rattle.str_writer.specs.Value.{repeated, textOf, inputFault, cutFault}
+use Rattle.writer_backend.specs.Output.{modeOf}
+use Rattle.writer_backend.proofs.Output.{counts, writes}
+use Rattle.value_writes.proofs.ValueLaws.{judged-uncut, value-counted, value-placed, write-unmet}
 use Rattle.value_writes.proofs.put_repeated.Statement.{statement}
 use Rattle.value_writes.proofs.put_repeated.Tie as tie
 
 returns : tie.Need-returns
-unfolding textOf
-returns c f =
-    let a = c .before .before .before .before .args in
-    c .add-len .ensures (a .buf .now)
-    ∙ value-counts (a .m) (a .buf .now) f (repeated (a .c) (a .n)) (c .before .if1 .taken) (repeated-fine (a .c) (a .n)) (sym (length-replicate (a .n) (a .c % 128)))
+unfolding textOf inputFault cutFault
+returns c f h =
+    let at-is-counting = c .before .before in
+    let a = at-is-counting .before .before .args in
+    value-counted (a .m) (a .buf .now) f (repeated (a .c) (a .n)) h Done (judged-uncut (modeOf (a .m)) (repeated (a .c) (a .n)) Done refl refl) refl refl (counts (a .m) (at-is-counting .is-counting .ensures) (c .before .if1 .taken)) (c .add-len .ensures (a .buf .now) (replicate (a .n) (a .c % 128)) (sym (at-is-counting .is-counting .ensures) ∙ c .before .if1 .taken) (sym (length-replicate (a .n) (a .c % 128))))
 
 returns-2 : tie.Need-returns-2
-unfolding textOf
-returns-2 c f =
-    let a = c .before .before .before .before .before .before .before .before .args in
-    c .from-written .ensures _
-    ∙ value-writes (a .m) (a .buf .now) f (repeated (a .c) (a .n)) (c .before .before .before .before .before .if1 .left) defaultFlags refl (c .before .before .before .write-ascii-repeated .ensures)
+unfolding textOf inputFault cutFault
+returns-2 c f h =
+    let at-write = c .before .before .before in
+    let at-if1 = at-write .before .before in
+    let at-is-counting = at-if1 .before in
+    let a = at-is-counting .before .before .args in
+    c .from-written .ensures _ (sym (at-is-counting .is-counting .ensures) ∙ at-if1 .if1 .left)
+    ∙ value-placed (a .m) (a .buf .now) f (repeated (a .c) (a .n)) h Done (judged-uncut (modeOf (a .m)) (repeated (a .c) (a .n)) Done refl refl) refl refl (writes (a .m) (at-is-counting .is-counting .ensures) (at-if1 .if1 .left)) (at-write .write-ascii-repeated .ensures ∙ write-unmet defaultFlags (a .buf .now) (a .m .number) (repeated (a .c) (a .n)) refl refl)
 
 pub put-repeated-spec : {M : Type 1} → statement M
-put-repeated-spec = tie.close (tie.spec (λ c κs. search needs) returns (λ c κs. search needs) (λ c κs. search needs) (λ c. search needs) returns-2)
+put-repeated-spec = tie.close (tie.spec (λ c κs. search needs) (λ c κs. search needs) returns (λ c κs. search needs) (λ c κs. search needs) (λ c. search needs) returns-2)

@@ -26,15 +26,17 @@ returns c =
 
 returns-2 : tie.Need-returns-2 Inv-loop μ-loop
 returns-2 c =
-    let l = c .before .before .before .before .before .before .loop in
-    let a = c .before .before .before .before .before .before .before .before .before .args in
+    let at-loop = c .before .before .before .before .before .before in
+    let l = at-loop .loop in
+    let a = at-loop .before .before .before .args in
     let n = c .before .before .before .before .index-of in
     place-ended (a .word .now) (a .list .now) (l .place) (l .start) (l .inv .2) (n .result) _ (rest-all (l .start) (a .list .now)) (n .ensures .0) _ (c .before .before .same .ensures) (c .before .if1 .left) (c .if2 .taken)
 
 loop-again : tie.Need-loop-again Inv-loop μ-loop
 loop-again c =
-    let l = c .before .before .before .before .before .before .loop in
-    let a = c .before .before .before .before .before .before .before .before .before .args in
+    let at-loop = c .before .before .before .before .before .before in
+    let l = at-loop .loop in
+    let a = at-loop .before .before .before .args in
     let n = c .before .before .before .before .index-of in
     (omega arith, omega arith, place-next (a .word .now) (a .list .now) (l .place) (l .start) (l .inv .2) (n .result) _ (rest-all (l .start) (a .list .now)) (n .ensures .0) _ (c .before .before .same .ensures) (c .before .if1 .left) (omega arith))
 

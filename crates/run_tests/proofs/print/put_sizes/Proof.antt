@@ -6,10 +6,10 @@ use Rattle.run_tests.proofs.print.put_sizes.Statement.{statement}
 use Rattle.run_tests.proofs.print.put_sizes.Tie as tie
 
 abbrev Inv-loop : tie.InvT-loop
-Inv-loop out₀ at flags most calls text end₀ n₀ t14 out end n = (n ≤ most) × (most < 256) × (length out ≡ length out₀)
+Inv-loop out₀ at settings most calls text end₀ n₀ t14 out end n = (n ≤ most) × (most < 256) × (length out ≡ length out₀)
 
 abbrev μ-loop : tie.MeasureT-loop
-μ-loop out₀ at flags most calls text end₀ n₀ t14 out end n = most - n
+μ-loop out₀ at settings most calls text end₀ n₀ t14 out end n = most - n
 
 pub put-sizes-spec : {M : Type 1} → statement M
 put-sizes-spec =

@@ -9,7 +9,11 @@ use Rattle.sheet.proofs.print.put_bad.Statement.{statement}
 use Rattle.sheet.proofs.print.put_bad.Tie as tie
 
 returns : tie.Need-returns
-returns c = (c .before .before .put .ensures ∙ ap (λ (t : List ℕ). put (c .before .before .before .before .before .before .before .before .before .before .args .out .now) (c .before .before .before .before .before .before .before .before .before .before .args .at) t) (laid-text _ _ _ _ (c .before .before .before .before .before .before .before .lay-bad .ensures .0) (c .before .before .before .before .before .before .before .lay-bad .ensures .1 .1)), omega arith)
+returns c =
+    let at-put = c .before .before in
+    let at-lay-bad = at-put .before .before .before .before .before in
+    let at-args = at-lay-bad .before .before .before in
+    (at-put .put .ensures ∙ ap (λ (t : List ℕ). put (at-args .args .out .now) (at-args .args .at) t) (laid-text _ _ _ _ (at-lay-bad .lay-bad .ensures .0) (at-lay-bad .lay-bad .ensures .1 .1)), omega arith)
 
 pub put-bad-spec : {M : Type 1} → statement M
 put-bad-spec = tie.close (tie.spec (λ c. search needs) (λ c κs. search needs) (λ c. search needs) (λ c. search needs) (λ c. search needs) (λ c κs. search needs) (λ c. search needs) returns)

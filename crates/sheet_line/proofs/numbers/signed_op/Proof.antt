@@ -17,7 +17,9 @@ returns c =
     rw (← signed-empty (bitsOf (at-args .args .width)) (at-args .args .s .now) (c .if1 .taken))
 
 negative-op-requires : tie.Need-negative-op-requires
-negative-op-requires c κs = omega (arith, in-limit _ _ _ _ (c .before .before .before .number .ensures) (c .before .m .given .1))
+negative-op-requires c κs =
+    let at-number = c .before .before .before in
+    omega (arith, in-limit _ _ _ _ (at-number .number .ensures) (c .before .m .given .1))
 
 returns-2 : tie.Need-returns-2
 returns-2 c =
@@ -40,11 +42,19 @@ returns-3 c =
 
 cast-t21 : tie.Need-cast-t21
 cast-t21 c =
-    let h = in-limit _ (c .before .before .before .before .before .before .before .before .before .args .s .now) _ _ (c .before .before .before .number2 .ensures) (c .before .n .given .1) in
+    let at-number2 = c .before .before .before in
+    let at-args = at-number2 .before .before .before .before .before .before in
+    let h = in-limit _ (at-args .args .s .now) _ _ (at-number2 .number2 .ensures) (c .before .n .given .1) in
     search needs
 
 returns-4 : tie.Need-returns-4
-returns-4 c = rw (signed-plain (bitsOf (c .before .before .before .before .before .before .before .before .before .args .width)) (c .before .before .before .before .before .before .before .before .before .args .s .now) (c .before .before .before .before .before .before .before .if1 .left) (c .before .before .before .before .if2 .left), ← is-read _ (2 ^ (bitsOf (c .before .before .before .before .before .before .before .before .before .args .width) - 1) - 1) (c .before .before .before .before .before .before .before .before .before .args .s .now) _ (c .before .before .before .number2 .ensures) (greatest-half (c .before .before .before .before .before .before .before .before .before .args .width) _ (c .before .before .before .before .before .before .greatest .ensures)) _ (c .before .n .given .1), toZ-pos w64 {n = c .before .n .given .0 .0} (omega (arith, in-limit _ (c .before .before .before .before .before .before .before .before .before .args .s .now) _ _ (c .before .before .before .number2 .ensures) (c .before .n .given .1))))
+returns-4 c =
+    let at-number2 = c .before .before .before in
+    let at-if2 = at-number2 .before in
+    let at-greatest = at-if2 .before .before in
+    let at-if1 = at-greatest .before in
+    let at-args = at-if1 .before .before in
+    rw (signed-plain (bitsOf (at-args .args .width)) (at-args .args .s .now) (at-if1 .if1 .left) (at-if2 .if2 .left), ← is-read _ (2 ^ (bitsOf (at-args .args .width) - 1) - 1) (at-args .args .s .now) _ (at-number2 .number2 .ensures) (greatest-half (at-args .args .width) _ (at-greatest .greatest .ensures)) _ (c .before .n .given .1), toZ-pos w64 {n = c .before .n .given .0 .0} (omega (arith, in-limit _ (at-args .args .s .now) _ _ (at-number2 .number2 .ensures) (c .before .n .given .1))))
 
 returns-5 : tie.Need-returns-5
 returns-5 c =

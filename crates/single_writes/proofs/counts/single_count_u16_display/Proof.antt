@@ -1,4 +1,3 @@
-use mathlib.Core.Path.{_∙_}
 use lib.IntN.{pos}
 use Rattle.formatting.specs.Flags.{defaultFlags}
 use Rattle.str_writer.specs.Value.{display, textOf}
@@ -11,7 +10,7 @@ returns : tie.Need-returns
 unfolding textOf
 returns c =
     let s = c .before .before .before in
-    c .add .ensures ∙ counts-integer (s .args .total .now) defaultFlags display 16 (pos (s .args .x)) (c .before .compute-display-len-u16 .ensures)
+    counts-integer (s .args .total .now) defaultFlags display 16 (pos (s .args .x)) (c .add .ensures) (c .before .compute-display-len-u16 .ensures)
 
 pub single-count-u16-display-spec : {M : Type 1} → statement M
 single-count-u16-display-spec = tie.close (tie.spec (λ c κs. search needs) (λ c κs. search needs) returns)

@@ -1,7 +1,7 @@
+use borrow.Author.Needs.{needs}
 use native.Mathlib.Omega.{arith}
 use mathlib.Core.Path.{refl}
 use borrow.Author.Tests.{lt-ltb, le-ltb}
-use borrow.Author.Needs.{needs}
 use Rattle.formatting.specs.FlagsAsNumber.{flagsOf}
 use Rattle.pwrapper.specs.Number.{hexText}
 use Rattle.pargument.specs.Integer.{integerBits}
@@ -10,14 +10,17 @@ use Rattle.single_writes.proofs.integers.single_integer_hexadecimal.Sta
 use Rattle.single_writes.proofs.integers.single_integer_hexadecimal.Tie as tie
 
 returns : tie.Need-returns
-returns c = rw (le-ltb (c .before .args .flags) 12 (omega arith)) refl
+returns c =
+    let s = c .before .before in
+    rw (le-ltb (s .args .flags) 12 (omega arith), c .number .ensures) refl
 
 returns-2 : tie.Need-returns-2
 returns-2 c =
-    let at-flags = c .before .before in
+    let at-array = c .before .before in
+    let at-flags = at-array .before in
     let s = at-flags .before .before in
-    rw (lt-ltb (s .args .flags) 12 (omega arith))
-    (laid-so 18 (hexText (flagsOf (s .args .flags)) (integerBits (record { «is_negative» = s .args .is-negative; unsigned = s .args .unsigned; mask = s .args .mask }))) (rw (at-flags .flags-of .ensures) at (c .before .to-start-array-hexadecimal .ensures)))
+    rw (lt-ltb (s .args .flags) 12 (omega arith), c .number2 .ensures)
+    (laid-so 18 (hexText (flagsOf (s .args .flags)) (integerBits (record { «is_negative» = s .args .is-negative; unsigned = s .args .unsigned; mask = s .args .mask }))) (rw (at-flags .flags-of .ensures) at (at-array .to-start-array-hexadecimal .ensures)))
 
 pub single-integer-hexadecimal-spec : {M : Type 1} → statement M
-single-integer-hexadecimal-spec = tie.close (tie.spec returns (λ c κs. search needs) (λ c κs. search needs) returns-2)
+single-integer-hexadecimal-spec = tie.close (tie.spec (λ c κs. search needs) returns (λ c κs. search needs) (λ c κs. search needs) (λ c κs. search needs) returns-2)

@@ -1,14 +1,16 @@
-use Rattle.str_writer.proofs.Truncation.{start-bad, start-done}
+use mathlib.Core.Path.{refl}
+use borrow.Author.Needs.{needs}
+use Rattle.str_writer.proofs.Truncation.{start-told}
 use Rattle.str_writer.proofs.cursor.from_custom.Statement.{statement}
 use Rattle.str_writer.proofs.cursor.from_custom.Tie as tie
 
+cursor-fault-requires : tie.Need-cursor-fault-requires
+cursor-fault-requires c κs = search needs
+
 returns : tie.Need-returns
 returns c =
-    start-bad (c .before .args .buf .now) (c .before .args .at) (c .if1 .taken)
-
-returns-2 : tie.Need-returns-2
-returns-2 c =
-    start-done (c .before .args .buf .now) (c .before .args .at) (c .if1 .left)
+    let a = c .before .before .args in
+    start-told (a .buf .now) (a .at) _ (c .cursor-fault .ensures (a .buf .now) refl)
 
 pub from-custom-spec : {M : Type 1} → statement M
-from-custom-spec = tie.close (tie.spec returns returns-2)
+from-custom-spec = tie.close (tie.spec cursor-fault-requires returns)

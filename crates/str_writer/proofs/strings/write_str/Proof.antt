@@ -1,29 +1,25 @@
-use mathlib.Core.Path.{sym, _∙_}
+use mathlib.Core.Path.{refl, sym, _∙_}
 use borrow.Author.Tests.{not-true, not-false}
 use borrow.Author.Needs.{needs}
-use Rattle.error.specs.declared.Answer.the-variants.{NotUtf8}
 use Rattle.formatting.specs.Flags.{defaultFlags}
 use Rattle.str_writer.specs.Value.{str, display, whole}
-use Rattle.str_writer.proofs.Outcomes.{write-bad, write-input}
-use Rattle.str_writer.proofs.Values.{whole-part, whole-uncut, str-fault, str-put}
+use Rattle.str_writer.proofs.Judging.{judged-whole-str, write-met, whole-emit}
 use Rattle.str_writer.proofs.strings.write_str.Statement.{statement}
 use Rattle.str_writer.proofs.strings.write_str.Tie as tie
 
+judge-str-requires : tie.Need-judge-str-requires
+judge-str-requires c κs = search needs
+
+is-done-requires : tie.Need-is-done-requires
+is-done-requires c κs = search needs
+
 returns : tie.Need-returns
 returns c =
-    let a = c .before .before .before .args in
+    let d = c .before .before in
+    let a = d .before .before .before .args in
     let s = a .s .now in
-    write-bad defaultFlags (a .buf .now) (a .at) (str display s (whole s)) (c .if1 .taken)
-
-is-utf8-requires : tie.Need-is-utf8-requires
-is-utf8-requires c κs = search needs
-
-returns-2 : tie.Need-returns-2
-returns-2 c =
-    let a = c .before .before .before .before .before .args in
-    let s = a .s .now in
-    write-input defaultFlags (a .buf .now) (a .at) (str display s (whole s)) (c .before .before .if1 .left) NotUtf8
-    (str-fault display s (whole s) (sym (c .before .is-utf8 .ensures) ∙ not-true _ (c .if2 .taken)))
+    let e = judged-whole-str (a .buf .now) (a .at) display s _ (d .judge-str .ensures (a .buf .now) refl display (whole s)) in
+    write-met defaultFlags (a .buf .now) (a .at) (str display s (whole s)) _ e (sym (c .before .is-done .ensures) ∙ not-true _ (c .if1 .taken))
 
 put-requires : tie.Need-put-requires
 put-requires c κs = search needs
@@ -31,13 +27,16 @@ put-requires c κs = search needs
 same-length : tie.Need-same-length
 same-length c = search needs
 
-returns-3 : tie.Need-returns-3
-returns-3 c =
-    let a = c .before .before .before .before .before .before .before .before .before .args in
+returns-2 : tie.Need-returns-2
+returns-2 c =
+    let p = c .before .before .before .before in
+    let d = p .before .before in
+    let a = d .before .before .before .args in
     let s = a .s .now in
-    let e = sym (c .before .before .before .before .before .is-utf8 .ensures) ∙ not-false _ (c .before .before .before .before .if2 .left) in
-    c .before .before .put .ensures ∙ (rw whole-part at (str-put defaultFlags (a .buf .now) (a .at) (c .before .before .before .before .before .before .if1 .left) s (whole s) e (whole-uncut display s e)))
+    let e = judged-whole-str (a .buf .now) (a .at) display s _ (d .judge-str .ensures (a .buf .now) refl display (whole s)) in
+    c .before .before .put .ensures ∙ whole-emit defaultFlags (a .buf .now) (a .at) _ s e (sym (p .before .is-done .ensures) ∙ not-false _ (p .if1 .left))
 
 pub write-str-spec : {M : Type 1} → statement M
 write-str-spec =
-    tie.close (tie.spec returns is-utf8-requires returns-2 put-requires same-length returns-3)
+    tie.close
+    (tie.spec judge-str-requires is-done-requires returns put-requires same-length returns-2)

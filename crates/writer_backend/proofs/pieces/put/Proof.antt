@@ -1,39 +1,34 @@
-use mathlib.Core.Path.{refl, ap, _∙_}
-use Rattle.agreement.specs.Model.{wrote}
-use Rattle.writer_backend.proofs.Output.{put-counts, put-past, put-writes}
 use borrow.Author.Needs.{needs}
+use mathlib.Core.Path.{refl, sym, ap, _∙_}
+use Rattle.calls.specs.Model.{wrote}
+use Rattle.writer_backend.proofs.Output.{writes, put-past, put-writes}
 use Rattle.writer_backend.proofs.pieces.put.Statement.{statement}
 use Rattle.writer_backend.proofs.pieces.put.Tie as tie
 
-add-len-requires : tie.Need-add-len-requires
-add-len-requires c κs = search needs
-
 returns : tie.Need-returns
-returns c = let a = c .before .before .before .before .before .args in c .add-len .ensures (a .buf .now) ∙ put-counts (a .m) (a .buf .now) (a .s .now) (c .before .if1 .taken) _ refl
+returns c =
+    let at-is-counting = c .before .before in
+    let a = at-is-counting .before .before .before .args in
+    c .add-len .ensures (a .buf .now) (a .s .now) (sym (at-is-counting .is-counting .ensures) ∙ c .before .if1 .taken) refl
 
 returns-2 : tie.Need-returns-2
-returns-2 c = let a = c .before .before .before .before .before .args in put-past (a .m) (a .buf .now) (a .s .now) (c .before .if1 .left) (c .if2 .taken)
-
-put-requires : tie.Need-put-requires
-put-requires c κs = search needs
-
-from-written-requires : tie.Need-from-written-requires
-from-written-requires c κs = search needs
-
-same-length : tie.Need-same-length
-same-length c = search needs
+returns-2 c =
+    let at-if1 = c .before .before in
+    let at-is-counting = at-if1 .before in
+    let a = at-is-counting .before .before .before .args in
+    c .answered .ensures (a .buf .now)
+    ∙ put-past (a .m) (a .buf .now) (writes (a .m) (at-is-counting .is-counting .ensures) (at-if1 .if1 .left)) (a .s .now) (c .before .if2 .taken)
 
 returns-3 : tie.Need-returns-3
-returns-3 c = let a = c .before .before .before .before .before .before .before .before .before .before .args in c .from-written .ensures _ ∙ ap wrote (c .before .before .before .put .ensures) ∙ put-writes (a .m) (a .buf .now) (a .s .now) (c .before .before .before .before .before .before .if1 .left) (c .before .before .before .before .before .if2 .left)
+returns-3 c =
+    let at-put = c .before .before .before in
+    let at-if2 = at-put .before .before in
+    let at-if1 = at-if2 .before in
+    let at-is-counting = at-if1 .before in
+    let a = at-is-counting .before .before .before .args in
+    c .from-written .ensures _ (sym (at-is-counting .is-counting .ensures) ∙ at-if1 .if1 .left)
+    ∙ ap wrote (at-put .put .ensures)
+    ∙ put-writes (a .m) (a .buf .now) (writes (a .m) (at-is-counting .is-counting .ensures) (at-if1 .if1 .left)) (a .s .now) (at-if2 .if2 .left)
 
 pub put-spec : {M : Type 1} → statement M
-put-spec =
-    tie.close
-    (tie.spec
-    add-len-requires
-    returns
-    returns-2
-    put-requires
-    from-written-requires
-    same-length
-    returns-3)
+put-spec = tie.close (tie.spec (λ c κs. search needs) (λ c κs. search needs) returns (λ c κs. search needs) returns-2 (λ c κs. search needs) (λ c κs. search needs) (λ c. search needs) returns-3)

@@ -1,46 +1,39 @@
+use borrow.Author.Needs.{needs}
 use mathlib.Core.Path.{sym, ap, _∙_}
 use lib.ListN.{length-replicate}
 use Rattle.formatting.specs.Flags.{defaultFlags}
-use Rattle.agreement.specs.Call.{spaces}
-use Rattle.agreement.specs.Model.{wrote}
+use Rattle.calls.specs.Call.{spaces}
+use Rattle.calls.specs.Model.{wrote}
 use Rattle.str_writer.proofs.Values.{repeated-put}
-use Rattle.writer_backend.proofs.Output.{put-counts, put-past, put-writes}
-use borrow.Author.Needs.{needs}
+use Rattle.writer_backend.proofs.Output.{writes, put-past, put-writes}
 use Rattle.writer_backend.proofs.pieces.put_spaces.Statement.{statement}
 use Rattle.writer_backend.proofs.pieces.put_spaces.Tie as tie
 
-add-len-requires : tie.Need-add-len-requires
-add-len-requires c κs = search needs
-
 returns : tie.Need-returns
-returns c = let a = c .before .before .before .before .args in c .add-len .ensures (a .buf .now) ∙ put-counts (a .m) (a .buf .now) (spaces (a .k)) (c .before .if1 .taken) (a .k) (length-replicate (a .k) 32)
+returns c =
+    let at-is-counting = c .before .before in
+    let a = at-is-counting .before .before .args in
+    c .add-len .ensures (a .buf .now) (spaces (a .k)) (sym (at-is-counting .is-counting .ensures) ∙ c .before .if1 .taken) (sym (length-replicate (a .k) 32))
 
 returns-2 : tie.Need-returns-2
-returns-2 c = let a = c .before .before .before .before .args in put-past (a .m) (a .buf .now) (spaces (a .k)) (c .before .if1 .left) (c .if2 .taken)
-
-write-ascii-repeated-requires : tie.Need-write-ascii-repeated-requires
-write-ascii-repeated-requires c κs = search needs
-
-from-written-requires : tie.Need-from-written-requires
-from-written-requires c κs = search needs
-
-same-length : tie.Need-same-length
-same-length c = search needs
+returns-2 c =
+    let at-if1 = c .before .before in
+    let at-is-counting = at-if1 .before in
+    let a = at-is-counting .before .before .args in
+    c .answered .ensures (a .buf .now)
+    ∙ put-past (a .m) (a .buf .now) (writes (a .m) (at-is-counting .is-counting .ensures) (at-if1 .if1 .left)) (spaces (a .k)) (c .before .if2 .taken)
 
 returns-3 : tie.Need-returns-3
 returns-3 c =
-    let a = c .before .before .before .before .before .before .before .before .before .args in
-    let p = sym (repeated-put defaultFlags (a .buf .now) (a .m .number) (c .before .before .before .before .before .if2 .left) 32 (a .k)) in
-    c .from-written .ensures _ ∙ ap wrote (c .before .before .before .write-ascii-repeated .ensures ∙ p) ∙ put-writes (a .m) (a .buf .now) (spaces (a .k)) (c .before .before .before .before .before .before .if1 .left) (c .before .before .before .before .before .if2 .left)
+    let at-write = c .before .before .before in
+    let at-if2 = at-write .before .before in
+    let at-if1 = at-if2 .before in
+    let at-is-counting = at-if1 .before in
+    let a = at-is-counting .before .before .args in
+    let p = sym (repeated-put defaultFlags (a .buf .now) (a .m .number) (at-if2 .if2 .left) 32 (a .k)) in
+    c .from-written .ensures _ (sym (at-is-counting .is-counting .ensures) ∙ at-if1 .if1 .left)
+    ∙ ap wrote (at-write .write-ascii-repeated .ensures ∙ p)
+    ∙ put-writes (a .m) (a .buf .now) (writes (a .m) (at-is-counting .is-counting .ensures) (at-if1 .if1 .left)) (spaces (a .k)) (at-if2 .if2 .left)
 
 pub put-spaces-spec : {M : Type 1} → statement M
-put-spaces-spec =
-    tie.close
-    (tie.spec
-    add-len-requires
-    returns
-    returns-2
-    write-ascii-repeated-requires
-    from-written-requires
-    same-length
-    returns-3)
+put-spaces-spec = tie.close (tie.spec (λ c κs. search needs) (λ c κs. search needs) returns (λ c κs. search needs) returns-2 (λ c κs. search needs) (λ c κs. search needs) (λ c. search needs) returns-3)

@@ -15,7 +15,10 @@ same-length : tie.Need-same-length
 same-length c = search needs
 
 returns : tie.Need-returns
-returns c = rw (← c .before .before .before .slice-up-to-len .ensures) (c .before .before .put .ensures)
+returns c =
+    let at-put = c .before .before in
+    let at-slice-up-to-len = at-put .before in
+    rw (← at-slice-up-to-len .slice-up-to-len .ensures) (at-put .put .ensures)
 
 pub put-word-spec : {M : Type 1} → statement M
 put-word-spec =

@@ -14,7 +14,9 @@ same-length c = search needs
 
 returns : tie.Need-returns
 unfolding tryOn
-returns c = rw (← c .before .before .before .before .put .ensures, ← c .first .ensures)
+returns c =
+    let at-put = c .before .before .before .before in
+    rw (← at-put .put .ensures, ← c .first .ensures)
 
 pub try-put-spec : {M : Type 1} → statement M
 try-put-spec = tie.close (tie.spec put-requires first-requires same-length returns)

@@ -14,7 +14,9 @@ same-length c = search needs
 
 returns : tie.Need-returns
 unfolding tryOn
-returns c = rw (← c .before .before .before .before .put-spaces .ensures, ← c .first .ensures)
+returns c =
+    let at-put-spaces = c .before .before .before .before in
+    rw (← at-put-spaces .put-spaces .ensures, ← c .first .ensures)
 
 pub try-spaces-spec : {M : Type 1} → statement M
 try-spaces-spec = tie.close (tie.spec put-spaces-requires first-requires same-length returns)

@@ -14,7 +14,9 @@ same-length c = search needs
 
 returns : tie.Need-returns
 unfolding tryOn
-returns c = rw (← c .before .before .before .before .put-word .ensures, ← c .first .ensures)
+returns c =
+    let at-put-word = c .before .before .before .before in
+    rw (← at-put-word .put-word .ensures, ← c .first .ensures)
 
 pub try-word-spec : {M : Type 1} → statement M
 try-word-spec = tie.close (tie.spec put-word-requires first-requires same-length returns)

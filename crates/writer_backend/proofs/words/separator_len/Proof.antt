@@ -1,7 +1,7 @@
 use borrow.Author.Needs.{needs}
 use mathlib.Core.Bool.{true, false}
 use native.Mathlib.Omega.{arith}
-use Rattle.agreement.specs.declared.Kind.the-variants.{Struct, Tuple, List as ListKind, Set}
+use Rattle.calls.specs.declared.Kind.the-variants.{Struct, Tuple, List as ListKind, Set}
 use Rattle.writer_backend.proofs.Sequence.{separator-length}
 use Rattle.writer_backend.proofs.words.separator_len.Statement.{statement}
 use Rattle.writer_backend.proofs.words.separator_len.Tie as tie

@@ -12,13 +12,17 @@ alternate-first-requires : tie.Need-alternate-first-requires
 alternate-first-requires c κs = search needs
 
 returns-2 : tie.Need-returns-2
-returns-2 c = rw (c .before .before .if1 .left, c .before .if2 .taken) (c .alternate-first .ensures)
+returns-2 c =
+    let at-if1 = c .before .before in
+    rw (at-if1 .if1 .left, c .before .if2 .taken) (c .alternate-first .ensures)
 
 plain-first-requires : tie.Need-plain-first-requires
 plain-first-requires c κs = search needs
 
 returns-3 : tie.Need-returns-3
-returns-3 c = rw (c .before .before .if1 .left, c .before .if2 .left) (c .plain-first .ensures)
+returns-3 c =
+    let at-if1 = c .before .before in
+    rw (at-if1 .if1 .left, c .before .if2 .left) (c .plain-first .ensures)
 
 pub separator-of-spec : {M : Type 1} → statement M
 separator-of-spec =

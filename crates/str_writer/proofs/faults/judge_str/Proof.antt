@@ -1,0 +1,36 @@
+use mathlib.Core.Path.{sym, _∙_}
+use mathlib.Core.List.{[], _∷_}
+use borrow.Author.Tests.{not-true, not-false}
+use borrow.Author.Needs.{needs}
+use Rattle.str_writer.specs.Value.{str, inputFault}
+use Rattle.str_writer.proofs.Judging.{str-tested, judged-cursor, judged-input}
+use Rattle.str_writer.proofs.faults.judge_str.Statement.{statement}
+use Rattle.str_writer.proofs.faults.judge_str.Tie as tie
+
+cursor-fault-requires : tie.Need-cursor-fault-requires
+cursor-fault-requires c κs = search needs
+
+is-done-requires : tie.Need-is-done-requires
+is-done-requires c κs = search needs
+
+returns : tie.Need-returns
+returns c = λ b e m r.
+    let d = c .before .before in
+    let a = d .before .before .args in
+    judged-cursor b (a .at) (str m (a .s .now) r) _ (d .cursor-fault .ensures b e) (inputFault (str m (a .s .now) r) ∷ []) (sym (c .before .is-done .ensures) ∙ not-true _ (c .if1 .taken))
+
+str-fault-requires : tie.Need-str-fault-requires
+str-fault-requires c κs = search needs
+
+returns-2 : tie.Need-returns-2
+returns-2 c = λ b e m r.
+    let p = c .before in
+    let d = p .before .before in
+    let a = d .before .before .args in
+    judged-input b (a .at) (str m (a .s .now) r) _ (d .cursor-fault .ensures b e) (sym (p .before .is-done .ensures) ∙ not-false _ (p .if1 .left))
+    _ (c .str-fault .ensures ∙ str-tested m (a .s .now) r)
+
+pub judge-str-spec : {M : Type 1} → statement M
+judge-str-spec =
+    tie.close
+    (tie.spec cursor-fault-requires is-done-requires returns str-fault-requires returns-2)

@@ -1,0 +1,49 @@
+use mathlib.Core.Path.{refl, sym, ap, _∙_}
+use native.Mathlib.Omega.{arith}
+use lib.ListN.{length, replicate, length-replicate}
+use Prim.Native.Nat.{ℕ, _≤_}
+use borrow.Author.Tests.{not-true, not-false}
+use borrow.Author.Needs.{needs}
+use Rattle.str_writer.specs.Write.{Outcome}
+use Rattle.str_writer.proofs.Outcomes.{put-short, put-done}
+use Rattle.str_writer.proofs.Judging.{cursor-fits, put-cursor}
+use Rattle.str_writer.proofs.faults.piece_fault.Statement.{statement}
+use Rattle.str_writer.proofs.faults.piece_fault.Tie as tie
+
+cursor-fault-requires : tie.Need-cursor-fault-requires
+cursor-fault-requires c κs = search needs
+
+is-done-requires : tie.Need-is-done-requires
+is-done-requires c κs = search needs
+
+returns : tie.Need-returns
+returns c = λ b t e k.
+    let d = c .before .before in
+    ap (λ (o : Outcome). o .written .answer) (put-cursor b (d .before .args .at) t _ (d .cursor-fault .ensures b e) (sym (c .before .is-done .ensures) ∙ not-true _ (c .if1 .taken)))
+
+-- past the test of the cursor there is room
+fits : (c : tie.Else1) → c .before .before .before .args .at ≤ c .before .before .before .args .len
+fits c =
+    let d = c .before .before in
+    let n = d .before .args .len in
+    let e = length-replicate {A = ℕ} n 0 in
+    rw e at (cursor-fits (replicate n 0) (d .before .args .at) _ (d .cursor-fault .ensures (replicate n 0) e) (sym (c .before .is-done .ensures) ∙ not-false _ (c .if1 .left)))
+
+sub-if2 : tie.Need-sub-if2
+sub-if2 c = fits c
+
+returns-2 : tie.Need-returns-2
+returns-2 c = λ b t e k.
+    let a = c .before .before .before .before .args in
+    let h = fits (c .before) in
+    ap (λ (o : Outcome). o .written .answer) (put-short b (a .at) t (rw e h) (rw (e, k) (c .if2 .taken)))
+
+returns-3 : tie.Need-returns-3
+returns-3 c = λ b t e k.
+    let a = c .before .before .before .before .args in
+    let h = fits (c .before) in
+    ap (λ (o : Outcome). o .written .answer) (put-done b (a .at) t (rw e h) (rw (e, k) (c .if2 .left)))
+
+pub piece-fault-spec : {M : Type 1} → statement M
+piece-fault-spec =
+    tie.close (tie.spec cursor-fault-requires is-done-requires returns sub-if2 returns-2 returns-3)
