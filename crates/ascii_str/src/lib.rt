@@ -10,6 +10,7 @@ pub enum AsciiStr {
 }
 
 impl AsciiStr {
+    // Tests a text.
     pub fn new(s: &[u8]) -> Self
         ensures { λ r. ⌜ r ≡ asciiFrom 0 (now (s .entry)) ⌝ }
     {
@@ -23,6 +24,7 @@ impl AsciiStr {
         AsciiStr::Ascii
     }
 
+    // Done for ASCII text, else NotAscii.
     pub fn answer(self) -> Answer
         ensures { λ r. ⌜ r ≡ asciiAnswer self ⌝ }
     {

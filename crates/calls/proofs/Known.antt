@@ -3,12 +3,12 @@ use mathlib.Core.Bool.{true}
 use mathlib.Core.Path.{_≡_, refl}
 use mathlib.Core.List.{List, [], _∷_, _++_, flatten}
 use Prim.Native.Nat.{ℕ, zero, suc}
-use Prim.Native.Char.{code}
-use Prim.Native.String.{String, [] as none, _∷_ as _then_}
+use Prim.Native.String.{String}
 use lib.IntN.{pos, negsuc}
 use lib.ListN.{length, replicate}
 use Rattle.formatting.specs.declared.flags.FormattingFlags.{FormattingFlags}
 use Rattle.formatting.specs.declared.flags.HexFormatting.the-variants.{Lower}
+use Rattle.formatting.specs.Bytes.{bytes}
 use Rattle.formatting.specs.Flags.{defaultFlags, withAlternate, withHex}
 use Rattle.formatting.specs.Escape.{escapeOf, escaped}
 use Rattle.utf8.specs.Utf8.{continues, follow}
@@ -22,11 +22,6 @@ use Rattle.calls.specs.declared.Settings.{Settings}
 use Rattle.calls.specs.Call.{Place, field, item, entry, Call, opens, place, value, sub, endsub, finish}
 use Rattle.calls.specs.Ledger.{ledger, fresh, textIn, Permitted}
 use Rattle.calls.specs.Model.{counting, writing, most, State, step, Run, run, start}
-
--- the bytes of an ASCII text
-abbrev bytes : String → List ℕ
-bytes none = []
-bytes (c then s) = code c ∷ bytes s
 
 abbrev pub plain : Settings
 plain = record { flags = defaultFlags }

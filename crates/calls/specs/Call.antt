@@ -9,6 +9,7 @@ use Rattle.error.specs.declared.Answer.{Answer}
 use Rattle.error.specs.declared.Answer.the-variants.{TooDeep, WrongCall}
 use Rattle.error.specs.Answer.{numberOf, answerOf}
 use Rattle.formatting.specs.declared.flags.FormattingFlags.{FormattingFlags}
+use Rattle.formatting.specs.Bytes.{bytes}
 use Rattle.str_writer.specs.Value.{Value, textFault, inputFault, cutFault}
 use Rattle.calls.specs.declared.Kind.{Kind}
 use Rattle.calls.specs.declared.Kind.the-variants.{Struct, Tuple, List as ListKind, Set}
@@ -41,19 +42,19 @@ placeName entry = []
 
 -- 'A nested record', first separator: ` { `, `(`, `[`, `{`; alternate ` {` (struct), `(`, `[`, `{` and a line feed
 abbrev pub firstSep : Kind → Bool → List ℕ
-firstSep Struct false = 32 ∷ 123 ∷ 32 ∷ []
-firstSep Struct true = 32 ∷ 123 ∷ 10 ∷ []
-firstSep Tuple false = 40 ∷ []
-firstSep Tuple true = 40 ∷ 10 ∷ []
-firstSep ListKind false = 91 ∷ []
-firstSep ListKind true = 91 ∷ 10 ∷ []
-firstSep Set false = 123 ∷ []
-firstSep Set true = 123 ∷ 10 ∷ []
+firstSep Struct false = bytes " { "
+firstSep Struct true = bytes " {\n"
+firstSep Tuple false = bytes "("
+firstSep Tuple true = bytes "(\n"
+firstSep ListKind false = bytes "["
+firstSep ListKind true = bytes "[\n"
+firstSep Set false = bytes "{"
+firstSep Set true = bytes "{\n"
 
 -- 'A nested record', later separators: `, `, or comma and line feed
 abbrev pub laterSep : Bool → List ℕ
-laterSep false = 44 ∷ 32 ∷ []
-laterSep true = 44 ∷ 10 ∷ []
+laterSep false = bytes ", "
+laterSep true = bytes ",\n"
 
 -- 'A nested record', field or entry: the first separator if the builder has printed no field, else the later one
 abbrev pub separator : Kind → Bool → Bool → List ℕ
@@ -62,32 +63,32 @@ separator k true alt = laterSep alt
 
 -- 'A nested record', field: `: ` after the name
 abbrev pub colon : List ℕ
-colon = 58 ∷ 32 ∷ []
+colon = bytes ": "
 
 -- 'A nested record', finish, alternate: comma, line feed
 abbrev pub commaLine : List ℕ
-commaLine = 44 ∷ 10 ∷ []
+commaLine = bytes ",\n"
 
 -- 'A nested record', finish, alternate: the bare bracket
 abbrev pub bracket : Kind → List ℕ
-bracket Struct = 125 ∷ []
-bracket Tuple = 41 ∷ []
-bracket ListKind = 93 ∷ []
-bracket Set = 125 ∷ []
+bracket Struct = bytes "}"
+bracket Tuple = bytes ")"
+bracket ListKind = bytes "]"
+bracket Set = bytes "}"
 
 -- 'A nested record', finish, with fields, plain: ` }`, `)`, `]`, `}`
 abbrev pub plainClose : Kind → List ℕ
-plainClose Struct = 32 ∷ 125 ∷ []
-plainClose Tuple = 41 ∷ []
-plainClose ListKind = 93 ∷ []
-plainClose Set = 125 ∷ []
+plainClose Struct = bytes " }"
+plainClose Tuple = bytes ")"
+plainClose ListKind = bytes "]"
+plainClose Set = bytes "}"
 
 -- 'A nested record', finish, without fields: nothing for struct and tuple, `[]` and `{}` for list and set, even alternate
 abbrev pub emptyClose : Kind → List ℕ
 emptyClose Struct = []
 emptyClose Tuple = []
-emptyClose ListKind = 91 ∷ 93 ∷ []
-emptyClose Set = 123 ∷ 125 ∷ []
+emptyClose ListKind = bytes "[]"
+emptyClose Set = bytes "{}"
 
 -- 'A nested record', alternate form: margin spaces
 abbrev pub spaces : ℕ → List ℕ

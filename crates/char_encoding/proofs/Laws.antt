@@ -1,6 +1,6 @@
 -- Laws of a character's texts: the octets by range, the lengths, and the texts in arrays.
 use mathlib.Core.Bool.{Bool, true, false, _&&_, _||_}
-use mathlib.Core.Path.{_≡_, refl, sym, ap, _∙_}
+use mathlib.Core.Path.{_≡_, refl, _∙_}
 use mathlib.Core.Logic.{_⊎_, inl, inr, ⊎-elim}
 use mathlib.Core.List.{List, [], _∷_, _++_}
 use Prim.Native.Nat.{ℕ, _+_, _-_, _/_, _%_, _≤_, _<_}
@@ -13,9 +13,7 @@ use Rattle.formatting.specs.Escape.{escapeOf, escapeText}
 use Rattle.formatting.specs.declared.escaping.Escape.{Escape}
 use Rattle.formatting.specs.declared.escaping.Escape.the-variants.{Bare, Backslash, Hexadecimal}
 use Rattle.utf8.specs.Utf8.{isScalar, octets}
-use Rattle.char_encoding.specs.Char.{charAnswer, charDisplay, charInner, charDebug, padded, fmtChar, charLen}
-use Rattle.char_encoding.specs.declared.FmtChar.{FmtChar}
-use Rattle.char_encoding.specs.declared.CharLen.{CharLen}
+use Rattle.char_encoding.specs.Char.{charAnswer, charDisplay, charInner, charDebug, padded}
 
 -- RFC 3629 section 3, a row of the table for each range
 pub octets-1 : (c : ℕ) → c < 0x80 → octets c ≡ c ∷ []

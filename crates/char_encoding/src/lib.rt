@@ -36,6 +36,7 @@ pub fn is_char(c: u32) -> bool
     c < 0xD800 || (0xE000 <= c && c <= 0x10FFFF)
 }
 
+// How many octets c has.
 pub fn char_display_len(c: u32) -> CharLen
     ensures { λ r. ⌜ r ≡ charLen c (charDisplay c) ⌝ }
 {
@@ -68,6 +69,7 @@ fn utf8_len(c: u32) -> usize
     4
 }
 
+// How long c is between quotation marks, its escape included.
 pub fn char_debug_len(c: u32) -> CharLen
     ensures { λ r. ⌜ r ≡ charLen c (charDebug c) ⌝ }
 {
@@ -83,6 +85,7 @@ pub fn char_debug_len(c: u32) -> CharLen
     }
 }
 
+// The octets of c.
 pub fn char_to_utf8(c: u32) -> Utf8Char
     ensures { λ r. ⌜ r ≡ utf8Char c (charDisplay c) ⌝ }
 {
@@ -159,6 +162,7 @@ fn char_inner(c: u32) -> Utf8Char
     }
 }
 
+// The octets of c, in an array that has room for a quoted one.
 pub fn char_to_display(c: u32) -> FmtChar
     ensures { λ r. ⌜ r ≡ fmtChar c (charDisplay c) ⌝ }
 {
@@ -177,6 +181,7 @@ pub fn char_to_display(c: u32) -> FmtChar
     }
 }
 
+// c between quotation marks, escaped where it must be.
 pub fn char_to_debug(c: u32) -> FmtChar
     ensures { λ r. ⌜ r ≡ fmtChar c (charDebug c) ⌝ }
 {

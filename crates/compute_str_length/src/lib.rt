@@ -12,6 +12,7 @@ ghost use Rattle.run.specs.Played.{played};
 ghost use Rattle.compute_str_length.specs.declared.Added.{Added};
 ghost use Rattle.compute_str_length.specs.Total.{addTo, countingAt, CountsCall, CountsCallThenLen, CountsRun, CountsThenAdds};
 use calls::Settings;
+use error::Answer;
 use formatter::Head;
 use formatter::HeadStep;
 use formatter::Op;
@@ -35,10 +36,13 @@ fn add_to(total: usize, len: usize) -> Added
     ensures { λ r. ⌜ r ≡ addTo total len ⌝ }
 {
     if usize::MAX - total < len {
-        return Added { answer: 6, total };
+        return Added {
+            answer: Answer::CountTooLarge.number(),
+            total,
+        };
     }
     Added {
-        answer: 0,
+        answer: Answer::Done.number(),
         total: total + len,
     }
 }

@@ -1,8 +1,8 @@
 -- A run as data: five words to a call, over a pool of texts. The words are: which call, where its text starts in the pool, how long the text is, and two numbers a and b. Document 01 has no such form: docs/DECISIONS.md, 'The formatter', says why there is one.
 use mathlib.Core.Bool.{cond}
-use mathlib.Core.Option.{Option, none, some}
+use mathlib.Core.Option.{Option, none}
 use mathlib.Core.List.{List, [], _∷_}
-use Prim.Native.Nat.{ℕ, zero, suc, _-_, _/_, _%_, _^_}
+use Prim.Native.Nat.{ℕ, zero, suc, _-_, _/_, _^_}
 use lib.Dec.{leb, ltb, eqb}
 use lib.IntN.{ℤ, pos, negsuc}
 use lib.ListN.{length, take, drop}

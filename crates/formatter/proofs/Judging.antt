@@ -1,18 +1,17 @@
 -- Each outcome of a judgement, by the number of the innermost entry.
-use mathlib.Core.Bool.{Bool, true, false, cond, _||_, false≢true}
+use mathlib.Core.Bool.{Bool, true, false, false≢true}
 use mathlib.Core.Path.{_≡_, refl, sym, _∙_}
 use mathlib.Core.List.{List, [], _∷_}
 use Prim.Native.Nat.{ℕ, zero, suc, _≤_, _<_}
-use lib.Dec.{leb, ltb}
 use borrow.Author.Tests.{le-leb, lt-leb, lt-ltb, le-ltb}
 use Rattle.utf8.specs.Utf8.{wellFormed}
 use Rattle.calls.specs.declared.Kind.{Kind}
-use Rattle.calls.specs.Call.{Place, Call, opens, place, value, sub, endsub, finish, Innermost, aBuilder, nameOf, ready, suits, tooDeep, faultNumber, argumentFault, cutNumber, callFault, hold}
+use Rattle.calls.specs.Call.{Place, Call, opens, place, value, endsub, finish, Innermost, aBuilder, nameOf, ready, suits, tooDeep, faultNumber, argumentFault, cutNumber, callFault, hold}
 use Rattle.calls.specs.Model.{Mode, counting, writing, cutIn, isReady, inner}
 use Rattle.str_writer.specs.Value.{Value, inputFault, cutFault}
 use Rattle.writer_backend.specs.Output.{isCounting}
 use Rattle.formatter.specs.Entries.{isBuilder, builderOf, entryOf}
-use Rattle.formatter.specs.View.{stackOf, topOf, FaultAt}
+use Rattle.formatter.specs.View.{stackOf, topOf, FaultAt, JudgedAt}
 use Rattle.formatter.proofs.Laws.{top-ready, top-builder, top-takes, top-finishes, top-ends}
 
 -- 8 where the call does not suit
@@ -76,24 +75,21 @@ endsub-none n d m z = λ s e. rw z
 
 -- a value: 8, then 2, 4 or 5, then 3 in writing
 module _ (n : ℕ) (v : Value) (r : Bool) (er : r ≡ ready (inner (entryOf n ∷ []))) (mode : Mode) where
-  abbrev Meets : ℕ → Type 0
-  Meets x = (d m : ℕ) (s : List ℕ) → n ≡ topOf s d → x ≡ hold (callFault (inner (stackOf s d)) d m (value v)) (cutIn mode (cutNumber (value v)))
-
-  pub value-unready : r ≡ false → Meets 8
+  pub value-unready : r ≡ false → JudgedAt 8 mode n (value v)
   value-unready q d m s e = rw (← not-ready n d m (value v) (λ i. refl) r er q s e)
 
   module _ (q : r ≡ true) (f : ℕ) (ef : f ≡ faultNumber (inputFault v)) where
     fault : (d m : ℕ) (s : List ℕ) → n ≡ topOf s d → f ≡ callFault (inner (stackOf s d)) d m (value v)
     fault d m s e = ready-meets n d m (value v) (λ i. refl) r er q refl f ef s e
 
-    pub value-met : (f ≡ 0 → ⊥) → Meets f
+    pub value-met : (f ≡ 0 → ⊥) → JudgedAt f mode n (value v)
     value-met z d m s e = rw (← fault d m s e) (go f z)
       where
         go : (x : ℕ) → (x ≡ 0 → ⊥) → x ≡ hold x (cutIn mode (cutNumber (value v)))
         go zero w = absurd (w refl)
         go (suc x) w = refl
 
-    pub value-unmet : f ≡ 0 → (x : ℕ) → x ≡ cutIn mode (faultNumber (cutFault v)) → Meets x
+    pub value-unmet : f ≡ 0 → (x : ℕ) → x ≡ cutIn mode (faultNumber (cutFault v)) → JudgedAt x mode n (value v)
     value-unmet z x ex d m s e = rw (← fault d m s e, z) ex
 
 -- 3 is for writing

@@ -1,15 +1,15 @@
 -- Entries as numbers, and the depth of the stack.
-use mathlib.Core.Bool.{Bool, true, false}
+use mathlib.Core.Bool.{Bool, true, false, cond}
 use mathlib.Core.Path.{_≡_, refl, ap, _∙_}
 use mathlib.Core.List.{List, [], _∷_}
 use Prim.Native.Nat.{ℕ, zero, suc, _+_, _-_, _*_, _/_, _%_, _≤_, _<_}
 use native.Mathlib.Omega.{arith}
-use lib.Dec.{eqb}
+use lib.Dec.{eqb, leb}
 use lib.ListN.{length, getD}
-use borrow.Author.Tests.{le-leb, lt-leb}
+use borrow.Author.Tests.{le-leb, lt-leb, leb-true}
 use Rattle.formatting.specs.FlagsAsNumber.{flagsOf}
 use Rattle.calls.specs.declared.Kind.the-variants.{Set}
-use Rattle.calls.specs.Call.{Place, Innermost, aBuilder, ready, takes, finishes, ends}
+use Rattle.calls.specs.Call.{Place, aBuilder, ready, takes, finishes, ends}
 use Rattle.calls.specs.Model.{Entry, builder, outer, isReady, inner}
 use Rattle.formatter.specs.Entries.{kindOf, heldOf, isBuilder, builderOf, outerOf, entryOf}
 use Rattle.formatter.specs.View.{stackOf, topOf, depthOf, marginOf}
@@ -76,6 +76,14 @@ depth-in d h = rw (le-leb d 64 h)
 pub depth-over : (d : ℕ) → 64 < d → 64 ≡ depthOf d
 unfolding depthOf
 depth-over d h = rw (lt-leb d 64 h)
+
+pub depth-most : (d : ℕ) → depthOf d ≤ 64
+unfolding depthOf
+depth-most d = go (leb d 64) refl
+  where
+    go : (t : Bool) → leb d 64 ≡ t → cond t d 64 ≤ 64
+    go true p = leb-true d 64 p
+    go false p = omega arith
 
 pub length-stack : (s : List ℕ) (d : ℕ) → length (stackOf s d) ≡ d
 length-stack s zero = refl

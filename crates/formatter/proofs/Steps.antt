@@ -7,15 +7,15 @@ use Prim.Native.Nat.{ℕ, zero, suc, _+_, _-_, _≤_, _<_}
 use native.Mathlib.Omega.{arith}
 use native.Mathlib.Numerals.{add-one}
 use lib.Dec.{leb, ltb}
-use lib.ListN.{length, getD, set}
+use lib.ListN.{length, set}
 use lib.Seq.{getD-set-same, getD-set-other}
 use borrow.Author.Tests.{leb-false, ltb-false}
 use Rattle.formatting.specs.declared.flags.FormattingFlags.{FormattingFlags}
 use Rattle.formatting.specs.FlagsAsNumber.{flagsOf}
 use Rattle.str_writer.specs.Value.{Value, inputFault, cutFault}
 use Rattle.calls.specs.declared.Kind.{Kind}
-use Rattle.calls.specs.Call.{Place, Call, opens, place, value, sub, endsub, finish, openPieces, placePieces, closePieces, Innermost, ready, faultNumber, argumentFault, cutOf, cutNumber, callFault, hold}
-use Rattle.calls.specs.Model.{Mode, counting, writing, PieceOutcome, putValue, cutIn, tries, stops, Builder, Outer, Entry, builder, outer, hasPrinted, State, Out, inner, beyond, judged, faultOf, move, emit, emitClose, lowered, holds, settled, guard, step}
+use Rattle.calls.specs.Call.{Place, Call, opens, place, value, sub, endsub, finish, openPieces, placePieces, closePieces, ready, faultNumber, argumentFault, cutOf, cutNumber, callFault, hold}
+use Rattle.calls.specs.Model.{Mode, counting, writing, PieceOutcome, putValue, cutIn, tries, stops, Entry, builder, outer, hasPrinted, State, Out, inner, beyond, judged, faultOf, move, emit, emitClose, lowered, holds, settled, guard, step}
 use Rattle.writer_backend.specs.declared.pieces.Wrote.{Wrote}
 use Rattle.writer_backend.specs.Output.{modeOf, outputOf, putOut}
 use Rattle.writer_backend.specs.Pieces.{tryAll}
@@ -23,9 +23,10 @@ use Rattle.value_writes.specs.Values.{unlessFault, valueOut}
 use Rattle.writer_backend.proofs.Sequence.{tried}
 use Rattle.formatter.specs.declared.head.Head.{Head}
 use Rattle.formatter.specs.Entries.{isBuilder, builderOf, outerOf, entryOf}
-use Rattle.formatter.specs.View.{stackOf, topOf, FaultAt, depthOf, marginOf, view, viewOut}
+use Rattle.formatter.specs.declared.dispatch.Begun.{Begun}
+use Rattle.formatter.specs.View.{stackOf, topOf, FaultAt, depthOf, marginOf, view, viewOut, begunAt, placeTried, closeTried}
 use Rattle.formatter.specs.Calls.{faultOr, stepOr}
-use Rattle.formatter.proofs.Laws.{is-builder, is-outer, depth-in, margin-in, length-stack, top-ready}
+use Rattle.formatter.proofs.Laws.{is-builder, is-outer, depth-in, depth-most, margin-in, length-stack, top-ready}
 use Rattle.formatter.proofs.Judging.{place-wrong, finish-wrong, endsub-wrong}
 
 -- the stack of numbers after a store, and its innermost entry
@@ -117,120 +118,156 @@ hold-uncut zero (counting t) = refl
 hold-uncut zero (writing p) = refl
 hold-uncut (suc n) m = refl
 
-module _ (h : Head) (s b : List ℕ) (o : ℕ) (eo : o ≡ beyond (modeOf (h .mode)) b) where
-  -- the cursor is past the bytes
-  pub past-end : (c : Call) → (o ≡ 0 → ⊥) → viewOut (record { answer = o; head = h }) s b ≡ step (view h s b) c
-  past-end c q = rw (← eo, hold-on o _ q) (guard-on o (view h s b) _ q)
+-- what a call begins with, and its pieces, by their parts
+pub begun : (h : Head) (s b : List ℕ) {o d n : ℕ} → o ≡ beyond (modeOf (h .mode)) b → d ≡ depthOf (h .depth) → n ≡ topOf s d → record { fault = o; depth = d; top = n } ≡ begunAt h s b
+begun h s b eo ed en = rw (en, ed, eo)
 
-  pub past-none : (o ≡ 0 → ⊥) → viewOut (record { answer = o; head = h }) s b ≡ stepOr (view h s b) none
-  past-none q = rw (← eo, hold-on o _ q)
+module _ (h : Head) (b : List ℕ) (n : ℕ) {k : Kind} {p : Bool} {f : FormattingFlags} {r : PieceOutcome} (ek : k ≡ builderOf n .kind) (ep : p ≡ hasPrinted (builderOf n)) (ef : f ≡ flagsOf (h .flags)) where
+  pub by-place : (x : Place) {g m : ℕ} → g ≡ builderOf n .held → m ≡ marginOf (h .margin)
+      → r ≡ tryAll (record { answer = g; output = outputOf (h .mode) b }) (placePieces k p (f .«is_alternate») m x) → r ≡ placeTried h b (builderOf n) x
+  by-place x eg em e = e ∙ rw (ek, ep, ef, eg, em)
 
-  pub past-fault : (c : Option Call) → (o ≡ 0 → ⊥) → o ≡ faultOr (view h s b) c
-  past-fault none q = rw (← eo, hold-on o _ q)
-  past-fault (some c) q = rw (← eo, hold-on o _ q)
+  pub by-close : (m : ℕ) → r ≡ stops (outputOf (h .mode) b) (closePieces k p (f .«is_alternate») m) → r ≡ closeTried h b (builderOf n) m
+  by-close m e = e ∙ rw (ek, ep, ef)
 
-  pub none-fault : o ≡ 0 → 8 ≡ faultOr (view h s b) none
-  none-fault q = rw (← eo, q)
+module _ (h : Head) (s b : List ℕ) where
+  module _ (o : ℕ) (eo : o ≡ beyond (modeOf (h .mode)) b) where
+    -- the cursor is past the bytes
+    pub past-end : (c : Call) → (o ≡ 0 → ⊥) → viewOut (record { answer = o; head = h }) s b ≡ step (view h s b) c
+    past-end c q = rw (← eo, hold-on o _ q) (guard-on o (view h s b) _ q)
 
-  pub none-wrong : o ≡ 0 → viewOut (record { answer = 8; head = h }) s b ≡ stepOr (view h s b) none
-  none-wrong q = rw (← eo, q)
+    pub past-none : (o ≡ 0 → ⊥) → viewOut (record { answer = o; head = h }) s b ≡ stepOr (view h s b) none
+    past-none q = rw (← eo, hold-on o _ q)
 
-  module _ (qo : o ≡ 0) (d : ℕ) (ed : d ≡ depthOf (h .depth)) (hd : d ≤ 64) (n : ℕ) (en : n ≡ topOf s d) where
-    stack-is : stackOf s (depthOf (h .depth)) ≡ stackOf s d
-    stack-is = rw (← ed)
+    past-fault : (c : Option Call) → (o ≡ 0 → ⊥) → o ≡ faultOr (view h s b) c
+    past-fault none q = rw (← eo, hold-on o _ q)
+    past-fault (some c) q = rw (← eo, hold-on o _ q)
 
-    -- a call that cuts nothing meets what it is judged by
-    module _ (m : ℕ) (em : m ≡ marginOf (h .margin)) (c : Call) (uncut : cutOf c ≡ none) (r : ℕ) (er : FaultAt r n d m c) where
-      pub met : r ≡ faultOf (view h s b) c
-      met = rw (← eo, qo, stack-is, length-stack s d, ← em, ← er s en, uncut) (sym (hold-uncut r (modeOf (h .mode))))
+    none-fault : o ≡ 0 → 8 ≡ faultOr (view h s b) none
+    none-fault q = rw (← eo, q)
 
-      pub refuses : (r ≡ 0 → ⊥) → viewOut (record { answer = r; head = h }) s b ≡ step (view h s b) c
-      refuses q = rw (← met) (guard-on r (view h s b) _ q)
+    pub none-wrong : o ≡ 0 → viewOut (record { answer = 8; head = h }) s b ≡ stepOr (view h s b) none
+    none-wrong q = rw (← eo, q)
 
-      does : r ≡ 0 → (y : Out) → y ≡ settled (holds c) (move (view h s b) c) (emit (view h s b) c) → y ≡ step (view h s b) c
-      does q y e = e ∙ rw (← met, q)
+  -- what a call begins with
+  module _ (at : Begun) (e : at ≡ begunAt h s b) where
+    eo : at .fault ≡ beyond (modeOf (h .mode)) b
+    eo = ap (λ (x : Begun). x .fault) e
 
-    pub value-fault : (v : Value) (r : ℕ) → r ≡ hold (callFault (inner (stackOf s d)) d (marginOf (h .margin)) (value v)) (cutIn (modeOf (h .mode)) (cutNumber (value v))) → r ≡ faultOf (view h s b) (value v)
-    value-fault v r e = rw (← eo, qo, stack-is) e
+    pub begun-past : (c : Call) → (at .fault ≡ 0 → ⊥) → viewOut (record { answer = at .fault; head = h }) s b ≡ step (view h s b) c
+    begun-past = past-end (at .fault) eo
 
-    below : stackOf s (depthOf (d - 1)) ≡ stackOf s (d - 1)
-    below = rw (← depth-in (d - 1) (omega arith))
+    pub judged-past : (c : Option Call) → (at .fault ≡ 0 → ⊥) → at .fault ≡ faultOr (view h s b) c
+    judged-past = past-fault (at .fault) eo
 
-    module _ (m : ℕ) (em : m ≡ marginOf (h .margin)) (r : ℕ) (q : r ≡ 0) where
-      -- one entry more
-      pushed : (v : ℕ) (x : Entry) → length s ≡ 64 → d < 64 → entryOf v ≡ x → stackOf (set s d v) (depthOf (d + 1)) ≡ x ∷ stackOf s d
-      pushed v x l hl ev = rw (← depth-in (d + 1) (omega arith), stack-push s d v (omega arith), ev)
+    pub judged-none : at .fault ≡ 0 → 8 ≡ faultOr (view h s b) none
+    judged-none = none-fault (at .fault) eo
 
-      pub open-done : (k : Kind) (name : List ℕ) → FaultAt r n d m (opens k name) → length s ≡ 64 → (w : Wrote) (b' : List ℕ) (v : ℕ)
-          → putOut w b' ≡ tries (outputOf (h .mode) b) (openPieces k name)
-          → entryOf v ≡ builder (record { kind = k; hasField = false; held = w .answer })
-          → viewOut (record { answer = 0; head = record { mode = w .mode; flags = h .flags; margin = m + 4; depth = d + 1 } }) (set s d v) b' ≡ step (view h s b) (opens k name)
-      open-done k name er l w b' v ew ev =
-          let room = open-room s n d m r en q k name er in
-          does m em (opens k name) refl r er q _ (rw (pushed v (builder (record { kind = k; hasField = false; held = w .answer })) l (room .0) ev, stack-is, margin-in (m + 4) (omega (arith, room .1)), ← em)
-          (ap (λ (y : PieceOutcome). record { answer = 0; state = record { output = y .output; flags = flagsOf (h .flags); margin = m + 4; stack = builder (record { kind = k; hasField = false; held = y .answer }) ∷ stackOf s d } }) ew))
+    ed : at .depth ≡ depthOf (h .depth)
+    ed = ap (λ (x : Begun). x .depth) e
 
-      pub sub-done : (f : FormattingFlags) → FaultAt r n d m (sub f) → length s ≡ 64 → (v : ℕ) → entryOf v ≡ outer (record { flags = flagsOf (h .flags); margin = m }) → (x : ℕ) → flagsOf x ≡ f
-          → viewOut (record { answer = 0; head = record { mode = h .mode; flags = x; margin = h .margin; depth = d + 1 } }) (set s d v) b ≡ step (view h s b) (sub f)
-      sub-done f er l v ev x ex =
-          does m em (sub f) refl r er q _ (rw (pushed v (outer (record { flags = flagsOf (h .flags); margin = m })) l (sub-room s n d m r en q f er) ev, stack-is, ex, ← em))
+    pub begun-depth : at .depth ≤ 64
+    begun-depth = rw ed (depth-most (h .depth))
 
-      pub place-done : (x : Place) → FaultAt r n d m (place x) → length s ≡ 64 → (k : Kind) → k ≡ builderOf n .kind → (g : ℕ) → g ≡ builderOf n .held → (p : Bool) → p ≡ hasPrinted (builderOf n)
-          → (f : FormattingFlags) → f ≡ flagsOf (h .flags) → (w : Wrote) (b' : List ℕ) (v : ℕ)
-          → putOut w b' ≡ tryAll (record { answer = g; output = outputOf (h .mode) b }) (placePieces k p (f .«is_alternate») m x)
-          → entryOf v ≡ builder (record { kind = k; hasField = true; held = w .answer })
-          → viewOut (record { answer = 0; head = record { mode = w .mode; flags = h .flags; margin = h .margin; depth = h .depth } }) (set s (d - 1) v) b' ≡ step (view h s b) (place x)
-      place-done x er l k ek g eg p ep f ef w b' v ew ev =
-          let t = place-builder s n d m r en q x er in
-          let z = some-builder s d n en t in
-          does m em (place x) refl r er q _ (rw (← ed, stack-replace s d v z (omega arith), ev, builder-top s d n en t, ← em, ← ek, ← eg, ← ep)
-          (ap (λ (y : PieceOutcome). record { answer = 0; state = record { output = y .output; flags = flagsOf (h .flags); margin = m; stack = builder (record { kind = k; hasField = true; held = y .answer }) ∷ stackOf s (d - 1) } })
-          (rw ef at ew ∙ tried g (outputOf (h .mode) b) (placePieces k p (flagsOf (h .flags) .«is_alternate») m x))))
+    pub begun-top : at .top ≡ topOf s (at .depth)
+    begun-top = rw e
 
-      pub endsub-done : FaultAt r n d m endsub → (f : FormattingFlags) → f ≡ outerOf n .flags → (y : ℕ) → y ≡ outerOf n .margin → y < 65536 → (x : ℕ) → flagsOf x ≡ f
-          → viewOut (record { answer = 0; head = record { mode = h .mode; flags = x; margin = y; depth = d - 1 } }) s b ≡ step (view h s b) endsub
-      endsub-done er f ef y ey hy x ex =
-          does m em endsub refl r er q _ (rw (below, stack-is, outer-top s d n en (endsub-some s n d m r en q er) (endsub-outer s n d m r en q er), margin-in y hy, ex, ← ey, ← ef))
+    module _ (qo : at .fault ≡ 0) where
+      stack-is : stackOf s (depthOf (h .depth)) ≡ stackOf s (at .depth)
+      stack-is = rw (← ed)
 
-      module _ (er : FaultAt r n d m finish) (g : ℕ) (eg : g ≡ builderOf n .held) where
-        closing : stackOf s d ≡ builder (builderOf n) ∷ stackOf s (d - 1)
-        closing = builder-top s d n en (finish-builder s n d m r en q er)
+      -- a call that cuts nothing meets what it is judged by
+      module _ (m : ℕ) (em : m ≡ marginOf (h .margin)) (c : Call) (uncut : cutOf c ≡ none) (r : ℕ) (er : FaultAt r (at .top) (at .depth) m c) where
+        pub met : r ≡ faultOf (view h s b) c
+        met = rw (← eo, qo, stack-is, length-stack s (at .depth), ← em, ← er s begun-top, uncut) (sym (hold-uncut r (modeOf (h .mode))))
 
-        pub finish-held : (g ≡ 0 → ⊥) → viewOut (record { answer = g; head = record { mode = h .mode; flags = h .flags; margin = h .margin; depth = d - 1 } }) s b ≡ step (view h s b) finish
-        finish-held z = does m em finish refl r er q _ (rw (below, stack-is, closing, ← eg) (go g z))
+        pub refuses : (r ≡ 0 → ⊥) → viewOut (record { answer = r; head = h }) s b ≡ step (view h s b) c
+        refuses q = rw (← met) (guard-on r (view h s b) _ q)
+
+        does : r ≡ 0 → (y : Out) → y ≡ settled (holds c) (move (view h s b) c) (emit (view h s b) c) → y ≡ step (view h s b) c
+        does q y e = e ∙ rw (← met, q)
+
+      pub value-fault : (v : Value) (r : ℕ) → r ≡ hold (callFault (inner (stackOf s (at .depth))) (at .depth) (marginOf (h .margin)) (value v)) (cutIn (modeOf (h .mode)) (cutNumber (value v))) → r ≡ faultOf (view h s b) (value v)
+      value-fault v r e = rw (← eo, qo, stack-is) e
+
+      below : stackOf s (depthOf (at .depth - 1)) ≡ stackOf s (at .depth - 1)
+      below = rw (← depth-in (at .depth - 1) (omega (arith, begun-depth)))
+
+      module _ (m : ℕ) (em : m ≡ marginOf (h .margin)) (r : ℕ) (q : r ≡ 0) where
+        -- one entry more
+        pushed : (v : ℕ) (x : Entry) → length s ≡ 64 → at .depth < 64 → entryOf v ≡ x → stackOf (set s (at .depth) v) (depthOf (at .depth + 1)) ≡ x ∷ stackOf s (at .depth)
+        pushed v x l hl ev = rw (← depth-in (at .depth + 1) (omega arith), stack-push s (at .depth) v (omega arith), ev)
+
+        pub open-done : (k : Kind) (name : List ℕ) → FaultAt r (at .top) (at .depth) m (opens k name) → length s ≡ 64 → (w : Wrote) (b' : List ℕ) (v : ℕ)
+            → putOut w b' ≡ tries (outputOf (h .mode) b) (openPieces k name)
+            → entryOf v ≡ builder (record { kind = k; hasField = false; held = w .answer })
+            → viewOut (record { answer = 0; head = record { mode = w .mode; flags = h .flags; margin = m + 4; depth = at .depth + 1 } }) (set s (at .depth) v) b' ≡ step (view h s b) (opens k name)
+        open-done k name er l w b' v ew ev =
+            let room = open-room s (at .top) (at .depth) m r begun-top q k name er in
+            does m em (opens k name) refl r er q _ (rw (pushed v (builder (record { kind = k; hasField = false; held = w .answer })) l (room .0) ev, stack-is, margin-in (m + 4) (omega (arith, room .1)), ← em)
+            (ap (λ (y : PieceOutcome). record { answer = 0; state = record { output = y .output; flags = flagsOf (h .flags); margin = m + 4; stack = builder (record { kind = k; hasField = false; held = y .answer }) ∷ stackOf s (at .depth) } }) ew))
+
+        pub sub-done : (f : FormattingFlags) → FaultAt r (at .top) (at .depth) m (sub f) → length s ≡ 64 → (v : ℕ) → entryOf v ≡ outer (record { flags = flagsOf (h .flags); margin = m }) → (x : ℕ) → flagsOf x ≡ f
+            → viewOut (record { answer = 0; head = record { mode = h .mode; flags = x; margin = h .margin; depth = at .depth + 1 } }) (set s (at .depth) v) b ≡ step (view h s b) (sub f)
+        sub-done f er l v ev x ex =
+            does m em (sub f) refl r er q _ (rw (pushed v (outer (record { flags = flagsOf (h .flags); margin = m })) l (sub-room s (at .top) (at .depth) m r begun-top q f er) ev, stack-is, ex, ← em))
+
+      module _ (r : ℕ) (q : r ≡ 0) where
+        pub place-done : (x : Place) → FaultAt r (at .top) (at .depth) (marginOf (h .margin)) (place x) → length s ≡ 64 → (k : Kind) → k ≡ builderOf (at .top) .kind → (w : Wrote) (b' : List ℕ) (v : ℕ)
+            → putOut w b' ≡ placeTried h b (builderOf (at .top)) x
+            → entryOf v ≡ builder (record { kind = k; hasField = true; held = w .answer })
+            → viewOut (record { answer = 0; head = record { mode = w .mode; flags = h .flags; margin = h .margin; depth = h .depth } }) (set s (at .depth - 1) v) b' ≡ step (view h s b) (place x)
+        place-done x er l k ek w b' v ew ev =
+            let B = builderOf (at .top) in
+            let t = place-builder s (at .top) (at .depth) (marginOf (h .margin)) r begun-top q x er in
+            let z = some-builder s (at .depth) (at .top) begun-top t in
+            does (marginOf (h .margin)) refl (place x) refl r er q _ (rw (← ed, stack-replace s (at .depth) v z (omega (arith, begun-depth)), ev, builder-top s (at .depth) (at .top) begun-top t, ek)
+            (ap (λ (y : PieceOutcome). record { answer = 0; state = record { output = y .output; flags = flagsOf (h .flags); margin = marginOf (h .margin); stack = builder (record { kind = B .kind; hasField = true; held = y .answer }) ∷ stackOf s (at .depth - 1) } })
+            (ew ∙ tried (B .held) (outputOf (h .mode) b) (placePieces (B .kind) (hasPrinted B) (flagsOf (h .flags) .«is_alternate») (marginOf (h .margin)) x))))
+
+        pub endsub-done : FaultAt r (at .top) (at .depth) (marginOf (h .margin)) endsub → (f : FormattingFlags) → f ≡ outerOf (at .top) .flags → (y : ℕ) → y ≡ outerOf (at .top) .margin → y < 65536 → (x : ℕ) → flagsOf x ≡ f
+            → viewOut (record { answer = 0; head = record { mode = h .mode; flags = x; margin = y; depth = at .depth - 1 } }) s b ≡ step (view h s b) endsub
+        endsub-done er f ef y ey hy x ex =
+            does (marginOf (h .margin)) refl endsub refl r er q _ (rw (below, stack-is, outer-top s (at .depth) (at .top) begun-top (endsub-some s (at .top) (at .depth) (marginOf (h .margin)) r begun-top q er) (endsub-outer s (at .top) (at .depth) (marginOf (h .margin)) r begun-top q er), margin-in y hy, ex, ← ey, ← ef))
+
+        module _ (er : FaultAt r (at .top) (at .depth) (marginOf (h .margin)) finish) (g : ℕ) (eg : g ≡ builderOf (at .top) .held) where
+          closing : stackOf s (at .depth) ≡ builder (builderOf (at .top)) ∷ stackOf s (at .depth - 1)
+          closing = builder-top s (at .depth) (at .top) begun-top (finish-builder s (at .top) (at .depth) (marginOf (h .margin)) r begun-top q er)
+
+          pub finish-held : (g ≡ 0 → ⊥) → viewOut (record { answer = g; head = record { mode = h .mode; flags = h .flags; margin = h .margin; depth = at .depth - 1 } }) s b ≡ step (view h s b) finish
+          finish-held z = does (marginOf (h .margin)) refl finish refl r er q _ (rw (below, stack-is, closing, ← eg) (go g z))
+            where
+              go : (y : ℕ) → (y ≡ 0 → ⊥) → record { answer = y; state = record { output = outputOf (h .mode) b; flags = flagsOf (h .flags); margin = marginOf (h .margin); stack = stackOf s (at .depth - 1) } }
+                  ≡ settled false (record { flags = flagsOf (h .flags); margin = lowered y (marginOf (h .margin)); stack = stackOf s (at .depth - 1) }) (emitClose y (outputOf (h .mode) b) (closePieces (builderOf (at .top) .kind) (hasPrinted (builderOf (at .top))) (flagsOf (h .flags) .«is_alternate») (marginOf (h .margin) - 4)))
+              go zero w = absurd (w refl)
+              go (suc y) w = refl
+
+          pub finish-closed : g ≡ 0 → (y : ℕ) → y ≡ marginOf (h .margin) - 4 → (w : Wrote) (b' : List ℕ) → putOut w b' ≡ closeTried h b (builderOf (at .top)) y
+              → viewOut (record { answer = w .answer; head = record { mode = w .mode; flags = h .flags; margin = y; depth = at .depth - 1 } }) s b' ≡ step (view h s b) finish
+          finish-closed z y ey w b' ew =
+              let e : builderOf (at .top) .held ≡ 0 = sym eg ∙ z in
+              does (marginOf (h .margin)) refl finish refl r er q _ (rw (below, stack-is, closing, e, ← ey, margin-in y (omega arith))
+              (ap (λ (t : PieceOutcome). record { answer = t .answer; state = record { output = t .output; flags = flagsOf (h .flags); margin = y; stack = stackOf s (at .depth - 1) } }) ew))
+
+      -- a value, by whether it suits
+      module _ (t : Bool) (et : t ≡ ready (inner (entryOf (at .top) ∷ []))) (v : Value) where
+        suits-value : ready (inner (stackOf s (depthOf (h .depth)))) ≡ t
+        suits-value = rw stack-is (top-ready s (at .depth) (at .top) begun-top ∙ sym et)
+
+        pub value-wrong : t ≡ false → viewOut (record { answer = 8; head = h }) s b ≡ step (view h s b) (value v)
+        value-wrong p = rw (← eo, qo, suits-value, p)
+
+        -- a value that suits is what its piece answers
+        pub value-done : t ≡ true → (f : FormattingFlags) → f ≡ flagsOf (h .flags) → (w : Wrote) (b' : List ℕ) → putOut w b' ≡ valueOut (h .mode) b f v
+            → viewOut (record { answer = w .answer; head = record { mode = w .mode; flags = h .flags; margin = h .margin; depth = h .depth } }) s b' ≡ step (view h s b) (value v)
+        unfolding valueOut
+        value-done p f ef w b' ew =
+            rw (← eo, qo, suits-value, p)
+            (ap out (rw ef at ew ∙ rw (← eo, qo)) ∙ go (hold (faultNumber (inputFault v)) (cutIn (modeOf (h .mode)) (faultNumber (cutFault v)))) (putValue (outputOf (h .mode) b) (flagsOf (h .flags)) v))
           where
-            go : (y : ℕ) → (y ≡ 0 → ⊥) → record { answer = y; state = record { output = outputOf (h .mode) b; flags = flagsOf (h .flags); margin = marginOf (h .margin); stack = stackOf s (d - 1) } }
-                ≡ settled false (record { flags = flagsOf (h .flags); margin = lowered y (marginOf (h .margin)); stack = stackOf s (d - 1) }) (emitClose y (outputOf (h .mode) b) (closePieces (builderOf n .kind) (hasPrinted (builderOf n)) (flagsOf (h .flags) .«is_alternate») (marginOf (h .margin) - 4)))
-            go zero w = absurd (w refl)
-            go (suc y) w = refl
+            out : PieceOutcome → Out
+            out y = record { answer = y .answer; state = record { output = y .output; flags = flagsOf (h .flags); margin = marginOf (h .margin); stack = stackOf s (depthOf (h .depth)) } }
 
-        pub finish-closed : g ≡ 0 → (k : Kind) → k ≡ builderOf n .kind → (p : Bool) → p ≡ hasPrinted (builderOf n) → (f : FormattingFlags) → f ≡ flagsOf (h .flags) → (y : ℕ) → y ≡ m - 4 → (w : Wrote) (b' : List ℕ)
-            → putOut w b' ≡ stops (outputOf (h .mode) b) (closePieces k p (f .«is_alternate») y)
-            → viewOut (record { answer = w .answer; head = record { mode = w .mode; flags = h .flags; margin = y; depth = d - 1 } }) s b' ≡ step (view h s b) finish
-        finish-closed z k ek p ep f ef y ey w b' ew =
-            let e : builderOf n .held ≡ 0 = sym eg ∙ z in
-            does m em finish refl r er q _ (rw (below, stack-is, closing, e, ← ek, ← ep, ← em, ← ey, margin-in y (omega arith))
-            (ap (λ (t : PieceOutcome). record { answer = t .answer; state = record { output = t .output; flags = flagsOf (h .flags); margin = y; stack = stackOf s (d - 1) } }) (rw ef at ew)))
-
-    -- a value, by whether it suits
-    module _ (t : Bool) (et : t ≡ ready (inner (entryOf n ∷ []))) (v : Value) where
-      suits-value : ready (inner (stackOf s (depthOf (h .depth)))) ≡ t
-      suits-value = rw stack-is (top-ready s d n en ∙ sym et)
-
-      pub value-wrong : t ≡ false → viewOut (record { answer = 8; head = h }) s b ≡ step (view h s b) (value v)
-      value-wrong p = rw (← eo, qo, suits-value, p)
-
-      -- a value that suits is what its piece answers
-      pub value-done : t ≡ true → (f : FormattingFlags) → f ≡ flagsOf (h .flags) → (w : Wrote) (b' : List ℕ) → putOut w b' ≡ valueOut (h .mode) b f v
-          → viewOut (record { answer = w .answer; head = record { mode = w .mode; flags = h .flags; margin = h .margin; depth = h .depth } }) s b' ≡ step (view h s b) (value v)
-      unfolding valueOut
-      value-done p f ef w b' ew =
-          rw (← eo, qo, suits-value, p)
-          (ap out (rw ef at ew ∙ rw (← eo, qo)) ∙ go (hold (faultNumber (inputFault v)) (cutIn (modeOf (h .mode)) (faultNumber (cutFault v)))) (putValue (outputOf (h .mode) b) (flagsOf (h .flags)) v))
-        where
-          out : PieceOutcome → Out
-          out y = record { answer = y .answer; state = record { output = y .output; flags = flagsOf (h .flags); margin = marginOf (h .margin); stack = stackOf s (depthOf (h .depth)) } }
-
-          go : (n : ℕ) (y : PieceOutcome) → out (unlessFault n (outputOf (h .mode) b) y) ≡ guard n (view h s b) (out y)
-          go zero y = refl
-          go (suc n) y = refl
+            go : (n : ℕ) (y : PieceOutcome) → out (unlessFault n (outputOf (h .mode) b) y) ≡ guard n (view h s b) (out y)
+            go zero y = refl
+            go (suc n) y = refl

@@ -2,16 +2,18 @@
 // lent: it is judged, it emits its pieces and moves the entries. What a call does not touch is not
 // copied.
 ghost use mathlib.Core.Path.{_≡_};
-ghost use Rattle.calls.specs.Call.{opens, place, value, finish, sub, endsub, callFault, cutNumber, hold};
-ghost use Rattle.calls.specs.Model.{step, inner, cutIn};
-ghost use Rattle.writer_backend.specs.Output.{modeOf};
+ghost use Rattle.calls.specs.Call.{opens, place, value, finish, sub, endsub};
+ghost use Rattle.calls.specs.Model.{step};
+ghost use Rattle.writer_backend.specs.Output.{modeOf, putOut};
 ghost use Rattle.writer_backend.specs.Pieces.{placeOf};
 ghost use Rattle.value_writes.specs.Values.{valueOf};
 ghost use Rattle.formatter.specs.Calls.{callOf, faultOr, stepOr};
-ghost use Rattle.formatter.specs.View.{stackOf, topOf, view, viewOut};
+ghost use Rattle.formatter.specs.Entries.{builderOf};
+ghost use Rattle.formatter.specs.View.{JudgedAt, view, viewOut, begunAt, placeTried, closeTried};
 ghost use mathlib.Core.List.{List};
 ghost use mathlib.Core.Option.{none};
 ghost use Prim.Native.Nat.{ℕ, _-_};
+ghost use lib.ListN.{length};
 use crate::entries::flags_in;
 use crate::entries::has_printed;
 use crate::entries::held_in;
@@ -58,6 +60,27 @@ pub enum Op {
     Nothing,
 }
 
+// What every call begins with: the 9 that it meets, how many entries are open, and the number of the
+// innermost.
+struct Begun {
+    fault: u8,
+    depth: usize,
+    top: u32,
+}
+
+fn begin(h: Head, stack: &[u32; 64], buf: &[u8]) -> Begun
+    ensures { λ r. ⌜ r ≡ begunAt h (now (stack .entry)) (now (buf .entry)) ⌝ }
+    ensures { λ _. ⌜ length (now (stack .entry)) ≡ 64 ⌝ }
+{
+    let mode = h.mode;
+    let depth = h.open_entries();
+    Begun {
+        fault: past(mode, buf),
+        depth,
+        top: innermost(stack, depth),
+    }
+}
+
 // The formatter as it was.
 fn refused(h: Head, answer: u8) -> HeadStep
     ensures { λ r. ⌜ r ≡ record { answer = answer; head = h } ⌝ }
@@ -69,24 +92,22 @@ fn refused(h: Head, answer: u8) -> HeadStep
 fn open_at(h: Head, stack: &mut [u32; 64], buf: &mut [u8], k: Kind, name: &[u8]) -> HeadStep
     ensures { λ r. ⌜ viewOut r (now (stack .exit)) (now (buf .exit)) ≡ step (view h (now (stack .entry)) (now (buf .entry))) (opens k (now (name .entry))) ⌝ }
 {
-    let mode = h.mode;
-    let over = past(mode, buf);
-    if over != 0 {
-        return refused(h, over);
+    let at = begin(h, stack, buf);
+    if at.fault != 0 {
+        return refused(h, at.fault);
     }
-    let d = h.open_entries();
     let margin = h.margin();
-    let fault = judge_open(innermost(stack, d), d, margin, k, name);
+    let fault = judge_open(at.top, at.depth, margin, k, name);
     if fault != 0 {
         return refused(h, fault);
     }
-    let w = put_name(mode, buf, k, name);
-    let after = w.mode;
-    let depth = push(stack, d, pack_builder(k, false, w.answer));
+    let w = put_name(h.mode, buf, k, name);
+    let mode = w.mode;
+    let depth = push(stack, at.depth, pack_builder(k, false, w.answer));
     HeadStep {
         answer: 0,
         head: Head {
-            mode: after,
+            mode,
             flags: h.flags,
             margin: (margin + 4) as u64,
             depth,
@@ -94,43 +115,48 @@ fn open_at(h: Head, stack: &mut [u32; 64], buf: &mut [u8], k: Kind, name: &[u8])
     }
 }
 
-// A field or an entry: the innermost builder has one, and holds what was refused first.
-fn place_at(h: Head, stack: &mut [u32; 64], buf: &mut [u8], p: PlaceKind, name: &[u8]) -> HeadStep
-    ensures { λ r. ⌜ viewOut r (now (stack .exit)) (now (buf .exit)) ≡ step (view h (now (stack .entry)) (now (buf .entry))) (place (placeOf p (now (name .entry)))) ⌝ }
+// What goes before a field or an entry of the builder that top is, from what it holds.
+fn emit_place(h: Head, buf: &mut [u8], top: u32, p: PlaceKind, name: &[u8]) -> Wrote
+    ensures { λ r. ⌜ putOut r (now (buf .exit)) ≡ placeTried h (now (buf .entry)) (builderOf top) (placeOf p (now (name .entry))) ⌝ }
 {
     let mode = h.mode;
-    let over = past(mode, buf);
-    if over != 0 {
-        return refused(h, over);
-    }
-    let d = h.open_entries();
-    let top = innermost(stack, d);
-    let fault = judge_place(top, p, name);
-    if fault != 0 {
-        return refused(h, fault);
-    }
-    let k = kind_in(top);
     let flags = h.flags();
     let t = Wrote {
         answer: held_in(top),
         mode,
     };
-    let w = place_pieces(
+    place_pieces(
         t,
         buf,
-        k,
+        kind_in(top),
         has_printed(top),
         flags.is_alternate,
         h.margin(),
         p,
         name,
-    );
-    let after = w.mode;
-    replace(stack, d, pack_builder(k, true, w.answer));
+    )
+}
+
+// A field or an entry: the innermost builder has one, and holds what was refused first.
+fn place_at(h: Head, stack: &mut [u32; 64], buf: &mut [u8], p: PlaceKind, name: &[u8]) -> HeadStep
+    ensures { λ r. ⌜ viewOut r (now (stack .exit)) (now (buf .exit)) ≡ step (view h (now (stack .entry)) (now (buf .entry))) (place (placeOf p (now (name .entry)))) ⌝ }
+{
+    let at = begin(h, stack, buf);
+    if at.fault != 0 {
+        return refused(h, at.fault);
+    }
+    let top = at.top;
+    let fault = judge_place(top, p, name);
+    if fault != 0 {
+        return refused(h, fault);
+    }
+    let w = emit_place(h, buf, top, p, name);
+    let mode = w.mode;
+    replace(stack, at.depth, pack_builder(kind_in(top), true, w.answer));
     HeadStep {
         answer: 0,
         head: Head {
-            mode: after,
+            mode,
             flags: h.flags,
             margin: h.margin,
             depth: h.depth,
@@ -144,24 +170,38 @@ fn lower(margin: u16) -> u16
     if margin < 4 { 0 } else { margin - 4 }
 }
 
+// The closing of the builder that top is, with the margin that is then left.
+fn emit_close(h: Head, buf: &mut [u8], top: u32, margin: u16) -> Wrote
+    ensures { λ r. ⌜ putOut r (now (buf .exit)) ≡ closeTried h (now (buf .entry)) (builderOf top) margin ⌝ }
+{
+    let flags = h.flags();
+    close(
+        h.mode,
+        buf,
+        kind_in(top),
+        has_printed(top),
+        flags.is_alternate,
+        margin as usize,
+    )
+}
+
 // Closes the innermost builder: what it holds is answered, else its closing is written.
 fn finish_at(h: Head, stack: &[u32; 64], buf: &mut [u8]) -> HeadStep
     ensures { λ r. ⌜ viewOut r (now (stack .entry)) (now (buf .exit)) ≡ step (view h (now (stack .entry)) (now (buf .entry))) finish ⌝ }
 {
-    let mode = h.mode;
-    let over = past(mode, buf);
-    if over != 0 {
-        return refused(h, over);
+    let at = begin(h, stack, buf);
+    if at.fault != 0 {
+        return refused(h, at.fault);
     }
-    let d = h.open_entries();
-    let top = innermost(stack, d);
+    let top = at.top;
     let fault = judge_finish(top);
     if fault != 0 {
         return refused(h, fault);
     }
-    let depth = pop(d);
+    let depth = pop(at.depth);
     let held = held_in(top);
     if held != 0 {
+        let mode = h.mode;
         return HeadStep {
             answer: held,
             head: Head {
@@ -172,22 +212,13 @@ fn finish_at(h: Head, stack: &[u32; 64], buf: &mut [u8]) -> HeadStep
             },
         };
     }
-    let k = kind_in(top);
     let low = lower(h.margin());
-    let flags = h.flags();
-    let w = close(
-        mode,
-        buf,
-        k,
-        has_printed(top),
-        flags.is_alternate,
-        low as usize,
-    );
-    let after = w.mode;
+    let w = emit_close(h, buf, top, low);
+    let mode = w.mode;
     HeadStep {
         answer: w.answer,
         head: Head {
-            mode: after,
+            mode,
             flags: h.flags,
             margin: low as u64,
             depth,
@@ -199,17 +230,16 @@ fn finish_at(h: Head, stack: &[u32; 64], buf: &mut [u8]) -> HeadStep
 fn sub_at(h: Head, stack: &mut [u32; 64], buf: &[u8], f: FormattingFlags) -> HeadStep
     ensures { λ r. ⌜ viewOut r (now (stack .exit)) (now (buf .entry)) ≡ step (view h (now (stack .entry)) (now (buf .entry))) (sub f) ⌝ }
 {
-    let mode = h.mode;
-    let over = past(mode, buf);
-    if over != 0 {
-        return refused(h, over);
+    let at = begin(h, stack, buf);
+    if at.fault != 0 {
+        return refused(h, at.fault);
     }
-    let d = h.open_entries();
-    let fault = judge_sub(innermost(stack, d), d);
+    let fault = judge_sub(at.top, at.depth);
     if fault != 0 {
         return refused(h, fault);
     }
-    let depth = push(stack, d, pack_outer(h.flags(), h.margin()));
+    let depth = push(stack, at.depth, pack_outer(h.flags(), h.margin()));
+    let mode = h.mode;
     HeadStep {
         answer: 0,
         head: Head {
@@ -225,24 +255,23 @@ fn sub_at(h: Head, stack: &mut [u32; 64], buf: &[u8], f: FormattingFlags) -> Hea
 fn endsub_at(h: Head, stack: &[u32; 64], buf: &[u8]) -> HeadStep
     ensures { λ r. ⌜ viewOut r (now (stack .entry)) (now (buf .entry)) ≡ step (view h (now (stack .entry)) (now (buf .entry))) endsub ⌝ }
 {
-    let mode = h.mode;
-    let over = past(mode, buf);
-    if over != 0 {
-        return refused(h, over);
+    let at = begin(h, stack, buf);
+    if at.fault != 0 {
+        return refused(h, at.fault);
     }
-    let d = h.open_entries();
-    let top = innermost(stack, d);
-    let fault = judge_endsub(top, d);
+    let top = at.top;
+    let fault = judge_endsub(top, at.depth);
     if fault != 0 {
         return refused(h, fault);
     }
+    let mode = h.mode;
     HeadStep {
         answer: 0,
         head: Head {
             mode,
             flags: flags_number(flags_in(top)),
             margin: margin_in(top) as u64,
-            depth: pop(d),
+            depth: pop(at.depth),
         },
     }
 }
@@ -251,20 +280,19 @@ fn endsub_at(h: Head, stack: &[u32; 64], buf: &[u8]) -> HeadStep
 fn value_at(h: Head, stack: &[u32; 64], buf: &mut [u8], v: PVariant, s: &[u8]) -> HeadStep
     ensures { λ r. ⌜ viewOut r (now (stack .entry)) (now (buf .exit)) ≡ step (view h (now (stack .entry)) (now (buf .entry))) (value (valueOf v (now (s .entry)))) ⌝ }
 {
-    let mode = h.mode;
-    let over = past(mode, buf);
-    if over != 0 {
-        return refused(h, over);
+    let at = begin(h, stack, buf);
+    if at.fault != 0 {
+        return refused(h, at.fault);
     }
-    if !is_ready(innermost(stack, h.open_entries())) {
+    if !is_ready(at.top) {
         return refused(h, Answer::WrongCall.number());
     }
-    let w = put_value(mode, h.flags(), buf, v, s);
-    let after = w.mode;
+    let w = put_value(h.mode, h.flags(), buf, v, s);
+    let mode = w.mode;
     HeadStep {
         answer: w.answer,
         head: Head {
-            mode: after,
+            mode,
             flags: h.flags,
             margin: h.margin,
             depth: h.depth,
@@ -286,7 +314,7 @@ pub fn no_call(h: Head, buf: &[u8]) -> HeadStep
 
 // What a value meets: 8, then 2, 4 or 5, then 3 in writing.
 fn judge_value(mode: WriterBackend, top: u32, v: PVariant, s: &[u8]) -> u8
-    ensures { λ r. ⌜ ((d m : ℕ) (t : List ℕ) → top ≡ topOf t d → r ≡ hold (callFault (inner (stackOf t d)) d m (value (valueOf v (now (s .entry))))) (cutIn (modeOf mode) (cutNumber (value (valueOf v (now (s .entry))))))) ⌝ }
+    ensures { λ r. ⌜ JudgedAt r (modeOf mode) top (value (valueOf v (now (s .entry)))) ⌝ }
 {
     if !is_ready(top) {
         return Answer::WrongCall.number();
@@ -306,20 +334,17 @@ fn judge_value(mode: WriterBackend, top: u32, v: PVariant, s: &[u8]) -> u8
 pub fn judge(h: Head, stack: &[u32; 64], buf: &[u8], op: Op, s: &[u8]) -> u8
     ensures { λ r. ⌜ r ≡ faultOr (view h (now (stack .entry)) (now (buf .entry))) (callOf op (now (s .entry))) ⌝ }
 {
-    let mode = h.mode;
-    let over = past(mode, buf);
-    if over != 0 {
-        return over;
+    let at = begin(h, stack, buf);
+    if at.fault != 0 {
+        return at.fault;
     }
-    let d = h.open_entries();
-    let top = innermost(stack, d);
     match op {
-        Op::Open(k) => judge_open(top, d, h.margin(), k, s),
-        Op::Place(p) => judge_place(top, p, s),
-        Op::Finish => judge_finish(top),
-        Op::Sub(_) => judge_sub(top, d),
-        Op::EndSub => judge_endsub(top, d),
-        Op::Value(v) => judge_value(mode, top, v, s),
+        Op::Open(k) => judge_open(at.top, at.depth, h.margin(), k, s),
+        Op::Place(p) => judge_place(at.top, p, s),
+        Op::Finish => judge_finish(at.top),
+        Op::Sub(_) => judge_sub(at.top, at.depth),
+        Op::EndSub => judge_endsub(at.top, at.depth),
+        Op::Value(v) => judge_value(h.mode, at.top, v, s),
         Op::Nothing => Answer::WrongCall.number(),
     }
 }

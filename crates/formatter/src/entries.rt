@@ -6,6 +6,7 @@ ghost use Rattle.calls.specs.Call.{ready};
 ghost use Rattle.calls.specs.Model.{hasPrinted, builder, outer, inner};
 ghost use Rattle.formatter.specs.Entries.{entryOf, isBuilder, builderOf, outerOf, heldOf, kindOf};
 use calls::Kind;
+use error::Answer;
 use formatting::FormattingFlags;
 use formatting::bit;
 use formatting::flags_number;
@@ -44,7 +45,7 @@ fn held_of(n: u32) -> u8
     if n < 2 {
         return n as u8;
     }
-    6
+    Answer::CountTooLarge.number()
 }
 
 // Whether an entry is a builder, and not a sub-formatter.

@@ -92,24 +92,28 @@ impl Formatter {
         }
     }
 
+    // Opens a struct with its name.
     pub fn debug_struct(self, buf: &mut [u8], name: &[u8]) -> FormatterStep
         ensures { λ r. ⌜ viewFOut r (now (buf .exit)) ≡ step (viewF self (now (buf .entry))) (opens Struct (now (name .entry))) ⌝ }
     {
         self.call(buf, Op::Open(Kind::Struct), name)
     }
 
+    // Opens a tuple with its name.
     pub fn debug_tuple(self, buf: &mut [u8], name: &[u8]) -> FormatterStep
         ensures { λ r. ⌜ viewFOut r (now (buf .exit)) ≡ step (viewF self (now (buf .entry))) (opens Tuple (now (name .entry))) ⌝ }
     {
         self.call(buf, Op::Open(Kind::Tuple), name)
     }
 
+    // Opens a list.
     pub fn debug_list(self, buf: &mut [u8]) -> FormatterStep
         ensures { λ r. ⌜ viewFOut r (now (buf .exit)) ≡ step (viewF self (now (buf .entry))) (opens kind.List []) ⌝ }
     {
         self.call(buf, Op::Open(Kind::List), b"")
     }
 
+    // Opens a set.
     pub fn debug_set(self, buf: &mut [u8]) -> FormatterStep
         ensures { λ r. ⌜ viewFOut r (now (buf .exit)) ≡ step (viewF self (now (buf .entry))) (opens Set []) ⌝ }
     {
@@ -158,6 +162,7 @@ impl Formatter {
         self.call(buf, Op::EndSub, b"")
     }
 
+    // Writes or counts a string.
     pub fn write_str(self, buf: &mut [u8], s: &[u8]) -> FormatterStep
         ensures { λ r. ⌜ viewFOut r (now (buf .exit)) ≡ step (viewF self (now (buf .entry))) (value (str display (now (s .entry)) (whole (now (s .entry))))) ⌝ }
     {
@@ -169,12 +174,14 @@ impl Formatter {
         )
     }
 
+    // Writes or counts the part of a string in the clamped range.
     pub fn write_str_range(self, buf: &mut [u8], s: &[u8], range: Range) -> FormatterStep
         ensures { λ r. ⌜ viewFOut r (now (buf .exit)) ≡ step (viewF self (now (buf .entry))) (value (str display (now (s .entry)) range)) ⌝ }
     {
         self.call(buf, Op::Value(PVariant::Str(Form::Display, range)), s)
     }
 
+    // Writes or counts ASCII text.
     pub fn write_ascii(self, buf: &mut [u8], s: &[u8]) -> FormatterStep
         ensures { λ r. ⌜ viewFOut r (now (buf .exit)) ≡ step (viewF self (now (buf .entry))) (value (ascii display (now (s .entry)) (whole (now (s .entry))))) ⌝ }
     {
@@ -186,18 +193,21 @@ impl Formatter {
         )
     }
 
+    // Writes or counts the part of ASCII text in the clamped range.
     pub fn write_ascii_range(self, buf: &mut [u8], s: &[u8], range: Range) -> FormatterStep
         ensures { λ r. ⌜ viewFOut r (now (buf .exit)) ≡ step (viewF self (now (buf .entry))) (value (ascii display (now (s .entry)) range)) ⌝ }
     {
         self.call(buf, Op::Value(PVariant::Ascii(Form::Display, range)), s)
     }
 
+    // Writes or counts a character.
     pub fn write_char(self, buf: &mut [u8], c: u32) -> FormatterStep
         ensures { λ r. ⌜ viewFOut r (now (buf .exit)) ≡ step (viewF self (now (buf .entry))) (value (char display c)) ⌝ }
     {
         self.call(buf, Op::Value(PVariant::Char(Form::Display, c)), b"")
     }
 
+    // Writes or counts a string between quotation marks.
     pub fn write_str_debug(self, buf: &mut [u8], s: &[u8]) -> FormatterStep
         ensures { λ r. ⌜ viewFOut r (now (buf .exit)) ≡ step (viewF self (now (buf .entry))) (value (str debug (now (s .entry)) (whole (now (s .entry))))) ⌝ }
     {
@@ -209,12 +219,14 @@ impl Formatter {
         )
     }
 
+    // Writes or counts the part of a string in the clamped range, between quotation marks.
     pub fn write_str_range_debug(self, buf: &mut [u8], s: &[u8], range: Range) -> FormatterStep
         ensures { λ r. ⌜ viewFOut r (now (buf .exit)) ≡ step (viewF self (now (buf .entry))) (value (str debug (now (s .entry)) range)) ⌝ }
     {
         self.call(buf, Op::Value(PVariant::Str(Form::Debug, range)), s)
     }
 
+    // Writes or counts ASCII text between quotation marks.
     pub fn write_ascii_debug(self, buf: &mut [u8], s: &[u8]) -> FormatterStep
         ensures { λ r. ⌜ viewFOut r (now (buf .exit)) ≡ step (viewF self (now (buf .entry))) (value (ascii debug (now (s .entry)) (whole (now (s .entry))))) ⌝ }
     {
@@ -226,24 +238,28 @@ impl Formatter {
         )
     }
 
+    // Writes or counts the part of ASCII text in the clamped range, between quotation marks.
     pub fn write_ascii_range_debug(self, buf: &mut [u8], s: &[u8], range: Range) -> FormatterStep
         ensures { λ r. ⌜ viewFOut r (now (buf .exit)) ≡ step (viewF self (now (buf .entry))) (value (ascii debug (now (s .entry)) range)) ⌝ }
     {
         self.call(buf, Op::Value(PVariant::Ascii(Form::Debug, range)), s)
     }
 
+    // Writes or counts a character between quotation marks.
     pub fn write_char_debug(self, buf: &mut [u8], c: u32) -> FormatterStep
         ensures { λ r. ⌜ viewFOut r (now (buf .exit)) ≡ step (viewF self (now (buf .entry))) (value (char debug c)) ⌝ }
     {
         self.call(buf, Op::Value(PVariant::Char(Form::Debug, c)), b"")
     }
 
+    // Writes or counts the low seven bits of c n times.
     pub fn write_ascii_repeated(self, buf: &mut [u8], c: u8, n: usize) -> FormatterStep
         ensures { λ r. ⌜ viewFOut r (now (buf .exit)) ≡ step (viewF self (now (buf .entry))) (value (repeated c n)) ⌝ }
     {
         self.call(buf, Op::Value(PVariant::Repeated(c, n)), b"")
     }
 
+    // Writes or counts a u8 in decimal.
     pub fn write_u8_display(self, buf: &mut [u8], x: u8) -> FormatterStep
         ensures { λ r. ⌜ viewFOut r (now (buf .exit)) ≡ step (viewF self (now (buf .entry))) (value (integer display 8 (pos x))) ⌝ }
     {
@@ -254,6 +270,7 @@ impl Formatter {
         )
     }
 
+    // Writes or counts a u8 in the form that the flags say.
     pub fn write_u8_debug(self, buf: &mut [u8], x: u8) -> FormatterStep
         ensures { λ r. ⌜ viewFOut r (now (buf .exit)) ≡ step (viewF self (now (buf .entry))) (value (integer debug 8 (pos x))) ⌝ }
     {
@@ -264,6 +281,7 @@ impl Formatter {
         )
     }
 
+    // Writes or counts a u16 in decimal.
     pub fn write_u16_display(self, buf: &mut [u8], x: u16) -> FormatterStep
         ensures { λ r. ⌜ viewFOut r (now (buf .exit)) ≡ step (viewF self (now (buf .entry))) (value (integer display 16 (pos x))) ⌝ }
     {
@@ -274,6 +292,7 @@ impl Formatter {
         )
     }
 
+    // Writes or counts a u16 in the form that the flags say.
     pub fn write_u16_debug(self, buf: &mut [u8], x: u16) -> FormatterStep
         ensures { λ r. ⌜ viewFOut r (now (buf .exit)) ≡ step (viewF self (now (buf .entry))) (value (integer debug 16 (pos x))) ⌝ }
     {
@@ -284,6 +303,7 @@ impl Formatter {
         )
     }
 
+    // Writes or counts a u32 in decimal.
     pub fn write_u32_display(self, buf: &mut [u8], x: u32) -> FormatterStep
         ensures { λ r. ⌜ viewFOut r (now (buf .exit)) ≡ step (viewF self (now (buf .entry))) (value (integer display 32 (pos x))) ⌝ }
     {
@@ -294,6 +314,7 @@ impl Formatter {
         )
     }
 
+    // Writes or counts a u32 in the form that the flags say.
     pub fn write_u32_debug(self, buf: &mut [u8], x: u32) -> FormatterStep
         ensures { λ r. ⌜ viewFOut r (now (buf .exit)) ≡ step (viewF self (now (buf .entry))) (value (integer debug 32 (pos x))) ⌝ }
     {
@@ -304,6 +325,7 @@ impl Formatter {
         )
     }
 
+    // Writes or counts a u64 in decimal.
     pub fn write_u64_display(self, buf: &mut [u8], x: u64) -> FormatterStep
         ensures { λ r. ⌜ viewFOut r (now (buf .exit)) ≡ step (viewF self (now (buf .entry))) (value (integer display 64 (pos x))) ⌝ }
     {
@@ -314,6 +336,7 @@ impl Formatter {
         )
     }
 
+    // Writes or counts a u64 in the form that the flags say.
     pub fn write_u64_debug(self, buf: &mut [u8], x: u64) -> FormatterStep
         ensures { λ r. ⌜ viewFOut r (now (buf .exit)) ≡ step (viewF self (now (buf .entry))) (value (integer debug 64 (pos x))) ⌝ }
     {
@@ -324,6 +347,7 @@ impl Formatter {
         )
     }
 
+    // Writes or counts an i8 in decimal.
     pub fn write_i8_display(self, buf: &mut [u8], x: i8) -> FormatterStep
         ensures { λ r. ⌜ viewFOut r (now (buf .exit)) ≡ step (viewF self (now (buf .entry))) (value (integer display 8 x)) ⌝ }
     {
@@ -334,6 +358,7 @@ impl Formatter {
         )
     }
 
+    // Writes or counts an i8 in the form that the flags say.
     pub fn write_i8_debug(self, buf: &mut [u8], x: i8) -> FormatterStep
         ensures { λ r. ⌜ viewFOut r (now (buf .exit)) ≡ step (viewF self (now (buf .entry))) (value (integer debug 8 x)) ⌝ }
     {
@@ -344,6 +369,7 @@ impl Formatter {
         )
     }
 
+    // Writes or counts an i16 in decimal.
     pub fn write_i16_display(self, buf: &mut [u8], x: i16) -> FormatterStep
         ensures { λ r. ⌜ viewFOut r (now (buf .exit)) ≡ step (viewF self (now (buf .entry))) (value (integer display 16 x)) ⌝ }
     {
@@ -354,6 +380,7 @@ impl Formatter {
         )
     }
 
+    // Writes or counts an i16 in the form that the flags say.
     pub fn write_i16_debug(self, buf: &mut [u8], x: i16) -> FormatterStep
         ensures { λ r. ⌜ viewFOut r (now (buf .exit)) ≡ step (viewF self (now (buf .entry))) (value (integer debug 16 x)) ⌝ }
     {
@@ -364,6 +391,7 @@ impl Formatter {
         )
     }
 
+    // Writes or counts an i32 in decimal.
     pub fn write_i32_display(self, buf: &mut [u8], x: i32) -> FormatterStep
         ensures { λ r. ⌜ viewFOut r (now (buf .exit)) ≡ step (viewF self (now (buf .entry))) (value (integer display 32 x)) ⌝ }
     {
@@ -374,6 +402,7 @@ impl Formatter {
         )
     }
 
+    // Writes or counts an i32 in the form that the flags say.
     pub fn write_i32_debug(self, buf: &mut [u8], x: i32) -> FormatterStep
         ensures { λ r. ⌜ viewFOut r (now (buf .exit)) ≡ step (viewF self (now (buf .entry))) (value (integer debug 32 x)) ⌝ }
     {
@@ -384,6 +413,7 @@ impl Formatter {
         )
     }
 
+    // Writes or counts an i64 in decimal.
     pub fn write_i64_display(self, buf: &mut [u8], x: i64) -> FormatterStep
         ensures { λ r. ⌜ viewFOut r (now (buf .exit)) ≡ step (viewF self (now (buf .entry))) (value (integer display 64 x)) ⌝ }
     {
@@ -394,6 +424,7 @@ impl Formatter {
         )
     }
 
+    // Writes or counts an i64 in the form that the flags say.
     pub fn write_i64_debug(self, buf: &mut [u8], x: i64) -> FormatterStep
         ensures { λ r. ⌜ viewFOut r (now (buf .exit)) ≡ step (viewF self (now (buf .entry))) (value (integer debug 64 x)) ⌝ }
     {

@@ -30,6 +30,7 @@ pub enum Escape {
     Hexadecimal,
 }
 
+// How a byte is written between quotation marks.
 pub fn escape_of(b: u8) -> Escape
     ensures { λ r. ⌜ r ≡ escapeOf b ⌝ }
 {

@@ -32,12 +32,14 @@ impl FormattingFlags {
 
     pub const NEW: Self = Self::DEFAULT;
 
+    // The default flags: decimal, upper digits, not alternate.
     pub fn new() -> Self
         ensures { λ r. ⌜ r ≡ defaultFlags ⌝ }
     {
         Self::NEW
     }
 
+    // The flags with another form of numbers.
     pub fn set_num_fmt(mut self, num_fmt: NumberFormatting) -> Self
         ensures { λ r. ⌜ r ≡ withNumFmt self «num_fmt» ⌝ }
     {
@@ -51,6 +53,7 @@ impl FormattingFlags {
         self
     }
 
+    // The flags with decimal numbers.
     pub fn set_decimal(mut self) -> Self
         ensures { λ r. ⌜ r ≡ withNumFmt self Decimal ⌝ }
     {
@@ -58,6 +61,7 @@ impl FormattingFlags {
         self
     }
 
+    // The flags with hexadecimal numbers in upper digits.
     pub fn set_hexadecimal(mut self) -> Self
         ensures { λ r. ⌜ r ≡ withHex self Upper ⌝ }
     {
@@ -70,6 +74,7 @@ impl FormattingFlags {
         self
     }
 
+    // The flags with hexadecimal numbers in lower digits.
     pub fn set_lower_hexadecimal(mut self) -> Self
         ensures { λ r. ⌜ r ≡ withHex self Lower ⌝ }
     {
@@ -82,6 +87,7 @@ impl FormattingFlags {
         self
     }
 
+    // The flags with binary numbers.
     pub fn set_binary(mut self) -> Self
         ensures { λ r. ⌜ r ≡ withNumFmt self Binary ⌝ }
     {
@@ -89,6 +95,7 @@ impl FormattingFlags {
         self
     }
 
+    // The flags with the alternate form on or off: prefixes, and a field a line.
     pub fn set_alternate(mut self, is_alternate: bool) -> Self
         ensures { λ r. ⌜ r ≡ withAlternate self «is_alternate» ⌝ }
     {
@@ -96,18 +103,21 @@ impl FormattingFlags {
         self
     }
 
+    // The form of numbers.
     pub fn num_fmt(self) -> NumberFormatting
         ensures { λ r. ⌜ r ≡ self .«num_fmt» ⌝ }
     {
         self.num_fmt
     }
 
+    // The case of hexadecimal digits.
     pub fn hex_fmt(self) -> HexFormatting
         ensures { λ r. ⌜ r ≡ self .«hex_fmt» ⌝ }
     {
         self.hex_fmt
     }
 
+    // Whether the form is the alternate one.
     pub fn is_alternate(self) -> bool
         ensures { λ r. ⌜ r ≡ self .«is_alternate» ⌝ }
     {

@@ -8,6 +8,7 @@ use lib.ListN.{replicate}
 use Rattle.formatting.specs.declared.flags.FormattingFlags.{FormattingFlags}
 use Rattle.formatting.specs.declared.flags.NumberFormatting.{NumberFormatting}
 use Rattle.formatting.specs.declared.flags.NumberFormatting.the-variants.{Hexadecimal, Binary}
+use Rattle.formatting.specs.Bytes.{bytes}
 use Rattle.formatting.specs.Flags.{defaultFlags, withNumFmt, withAlternate}
 use Rattle.formatting.specs.Escape.{quoted}
 use Rattle.utf8.specs.Utf8.{octets}
@@ -33,19 +34,19 @@ emptyList = opens kind.List [] ∷ finish ∷ []
 
 -- 'The call sheet': the input that the paper shows
 abbrev pub sheet : List Call
-sheet = opens Struct (80 ∷ []) ∷ place (field (120 ∷ [])) ∷ value (integer debug 8 (pos 7)) ∷ finish ∷ []
+sheet = opens Struct (bytes "P") ∷ place (field (bytes "x")) ∷ value (integer debug 8 (pos 7)) ∷ finish ∷ []
 
 -- 'Known pairs': the starred ones
 unfoldable pub pairs : List Pair
 pairs =
     -- u8 255 `255`
-    record { text = displayText (pos 255); known = 50 ∷ 53 ∷ 53 ∷ [] }
+    record { text = displayText (pos 255); known = bytes "255" }
     -- i8 -128 `-128`
-    ∷ record { text = displayText (negsuc 127); known = 45 ∷ 49 ∷ 50 ∷ 56 ∷ [] }
+    ∷ record { text = displayText (negsuc 127); known = bytes "-128" }
     -- i8 -1 hex alternate `0xFF`
-    ∷ record { text = debugText (alternate Hexadecimal) 8 (negsuc 0); known = 48 ∷ 120 ∷ 70 ∷ 70 ∷ [] }
+    ∷ record { text = debugText (alternate Hexadecimal) 8 (negsuc 0); known = bytes "0xFF" }
     -- 0 binary alternate `0b0`
-    ∷ record { text = debugText (alternate Binary) 8 (pos 0); known = 48 ∷ 98 ∷ 48 ∷ [] }
+    ∷ record { text = debugText (alternate Binary) 8 (pos 0); known = bytes "0b0" }
     -- U+7F one byte
     ∷ record { text = octets 0x7F; known = 0x7F ∷ [] }
     -- U+80 C2 80
@@ -59,13 +60,13 @@ pairs =
     -- U+10000 F0 90 80 80
     ∷ record { text = octets 0x10000; known = 0xF0 ∷ 0x90 ∷ 0x80 ∷ 0x80 ∷ [] }
     -- quoted `a'b` `"a\'b"`
-    ∷ record { text = quoted (97 ∷ 39 ∷ 98 ∷ []); known = 34 ∷ 97 ∷ 92 ∷ 39 ∷ 98 ∷ 34 ∷ [] }
+    ∷ record { text = quoted (bytes "a'b"); known = bytes "\"a\\'b\"" }
     -- byte 1 quoted `"\x01"`
-    ∷ record { text = quoted (1 ∷ []); known = 34 ∷ 92 ∷ 120 ∷ 48 ∷ 49 ∷ 34 ∷ [] }
+    ∷ record { text = quoted (1 ∷ []); known = bytes "\"\\x01\"" }
     -- empty list alternate `[]`
-    ∷ record { text = definedText (record { flags = withAlternate defaultFlags true }) emptyList; known = 91 ∷ 93 ∷ [] }
+    ∷ record { text = definedText (record { flags = withAlternate defaultFlags true }) emptyList; known = bytes "[]" }
     -- the sheet with n 3: the bytes are `Px7`
-    ∷ record { text = written (record { flags = defaultFlags }) sheet (replicate 3 0) 0 .state .output .bytes; known = 80 ∷ 120 ∷ 55 ∷ [] }
+    ∷ record { text = written (record { flags = defaultFlags }) sheet (replicate 3 0) 0 .state .output .bytes; known = bytes "Px7" }
     ∷ []
 
 -- 'Known pairs': each text of a list is its known bytes

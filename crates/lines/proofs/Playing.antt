@@ -7,7 +7,7 @@ use native.Mathlib.Omega.{arith}
 use Rattle.lines.specs.declared.Reader.{Reader}
 use Rattle.lines.specs.declared.Taken.{Taken}
 use Rattle.lines.specs.Lines.{linesOf, clipped}
-use Rattle.lines.specs.Reading.{held, ahead, aheadOf, MayFollow, Takes, More}
+use Rattle.lines.specs.Reading.{held, ahead, aheadOf, MayFollow, Takes}
 use Rattle.lines.specs.Played.{At, standing, remains, Over, answers, ends, awaits, Steps, joined, Plays, rests, steps, reads, writes, PlaysRight, BreaksOffRight, MorePlays}
 
 pub apart : (t : Bool) → t ≡ true → t ≡ false → ⊥

@@ -1,6 +1,6 @@
 -- Document 01, 'Beside the record': `Integer` and its digits laid in arrays.
 use mathlib.Core.Bool.{Bool, true, false, cond}
-use mathlib.Core.List.{List, [], _∷_, _++_}
+use mathlib.Core.List.{List, _∷_, _++_}
 use Prim.Native.Nat.{ℕ, _-_, _%_, _^_}
 use lib.IntN.{ℤ, pos, negsuc, natAbs}
 use lib.Bits.{bitAnd}

@@ -34,6 +34,7 @@ pub struct StartAndArray21 {
     pub array: [u8; 21],
 }
 
+// The sign and the absolute value of a u8, with the mask of its bits.
 pub fn to_integer_u8(n: u8) -> Integer
     ensures { λ r. ⌜ r ≡ integerOf 8 (pos n) ⌝ }
 {
@@ -44,6 +45,7 @@ pub fn to_integer_u8(n: u8) -> Integer
     }
 }
 
+// The sign and the absolute value of a u16, with the mask of its bits.
 pub fn to_integer_u16(n: u16) -> Integer
     ensures { λ r. ⌜ r ≡ integerOf 16 (pos n) ⌝ }
 {
@@ -54,6 +56,7 @@ pub fn to_integer_u16(n: u16) -> Integer
     }
 }
 
+// The sign and the absolute value of a u32, with the mask of its bits.
 pub fn to_integer_u32(n: u32) -> Integer
     ensures { λ r. ⌜ r ≡ integerOf 32 (pos n) ⌝ }
 {
@@ -64,6 +67,7 @@ pub fn to_integer_u32(n: u32) -> Integer
     }
 }
 
+// The sign and the absolute value of a u64, with the mask of its bits.
 pub fn to_integer_u64(n: u64) -> Integer
     ensures { λ r. ⌜ r ≡ integerOf 64 (pos n) ⌝ }
 {
@@ -74,6 +78,7 @@ pub fn to_integer_u64(n: u64) -> Integer
     }
 }
 
+// The sign and the absolute value of an i8, with the mask of its bits.
 pub fn to_integer_i8(x: i8) -> Integer
     ensures { λ r. ⌜ r ≡ integerOf 8 x ⌝ }
 {
@@ -85,6 +90,7 @@ pub fn to_integer_i8(x: i8) -> Integer
     }
 }
 
+// The sign and the absolute value of an i16, with the mask of its bits.
 pub fn to_integer_i16(x: i16) -> Integer
     ensures { λ r. ⌜ r ≡ integerOf 16 x ⌝ }
 {
@@ -96,6 +102,7 @@ pub fn to_integer_i16(x: i16) -> Integer
     }
 }
 
+// The sign and the absolute value of an i32, with the mask of its bits.
 pub fn to_integer_i32(x: i32) -> Integer
     ensures { λ r. ⌜ r ≡ integerOf 32 x ⌝ }
 {
@@ -107,6 +114,7 @@ pub fn to_integer_i32(x: i32) -> Integer
     }
 }
 
+// The sign and the absolute value of an i64, with the mask of its bits.
 pub fn to_integer_i64(x: i64) -> Integer
     ensures { λ r. ⌜ r ≡ integerOf 64 x ⌝ }
 {
@@ -130,6 +138,7 @@ impl Integer {
         self.unsigned & self.mask
     }
 
+    // The binary text at the end of an array, with its prefix where the flags say so.
     pub fn to_start_array_binary(self, flags: FormattingFlags) -> StartAndArray66
         ensures { λ r. ⌜ (r .start ≡ startOf 66 (binText flags (integerBits self))) × (r .array ≡ arrayOf 66 (binText flags (integerBits self))) ⌝ }
     {
@@ -155,6 +164,7 @@ impl Integer {
         StartAndArray66 { start, array }
     }
 
+    // The hexadecimal text at the end of an array, with its prefix where the flags say so.
     pub fn to_start_array_hexadecimal(self, flags: FormattingFlags) -> StartAndArray18
         ensures { λ r. ⌜ (r .start ≡ startOf 18 (hexText flags (integerBits self))) × (r .array ≡ arrayOf 18 (hexText flags (integerBits self))) ⌝ }
     {
@@ -181,6 +191,7 @@ impl Integer {
         StartAndArray18 { start, array }
     }
 
+    // The decimal text at the end of an array.
     pub fn to_start_array_display(self) -> StartAndArray21
         ensures { λ r. ⌜ (r .start ≡ startOf 21 (integerDisplay self)) × (r .array ≡ arrayOf 21 (integerDisplay self)) ⌝ }
     {
@@ -205,6 +216,7 @@ impl Integer {
         StartAndArray21 { start, array }
     }
 
+    // The decimal text too: the debug form in decimal is the display form.
     pub fn to_start_array_debug(self) -> StartAndArray21
         ensures { λ r. ⌜ (r .start ≡ startOf 21 (integerDisplay self)) × (r .array ≡ arrayOf 21 (integerDisplay self)) ⌝ }
     {

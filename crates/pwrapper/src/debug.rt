@@ -30,6 +30,7 @@ use crate::radix::hexadecimal_len_u64;
 use formatting::FormattingFlags;
 use formatting::NumberFormatting;
 
+// How long a u8 is in the form that the flags say.
 pub fn compute_debug_len_u8(x: u8, flags: FormattingFlags) -> usize
     ensures { λ r. ⌜ r ≡ length (debugText flags 8 (pos x)) ⌝ }
 {
@@ -41,6 +42,7 @@ pub fn compute_debug_len_u8(x: u8, flags: FormattingFlags) -> usize
     }
 }
 
+// How long a u16 is in the form that the flags say.
 pub fn compute_debug_len_u16(x: u16, flags: FormattingFlags) -> usize
     ensures { λ r. ⌜ r ≡ length (debugText flags 16 (pos x)) ⌝ }
 {
@@ -52,6 +54,7 @@ pub fn compute_debug_len_u16(x: u16, flags: FormattingFlags) -> usize
     }
 }
 
+// How long a u32 is in the form that the flags say.
 pub fn compute_debug_len_u32(x: u32, flags: FormattingFlags) -> usize
     ensures { λ r. ⌜ r ≡ length (debugText flags 32 (pos x)) ⌝ }
 {
@@ -63,6 +66,7 @@ pub fn compute_debug_len_u32(x: u32, flags: FormattingFlags) -> usize
     }
 }
 
+// How long a u64 is in the form that the flags say.
 pub fn compute_debug_len_u64(x: u64, flags: FormattingFlags) -> usize
     ensures { λ r. ⌜ r ≡ length (debugText flags 64 (pos x)) ⌝ }
 {
@@ -74,6 +78,7 @@ pub fn compute_debug_len_u64(x: u64, flags: FormattingFlags) -> usize
     }
 }
 
+// How long an i8 is in the form that the flags say.
 pub fn compute_debug_len_i8(x: i8, flags: FormattingFlags) -> usize
     ensures { λ r. ⌜ r ≡ length (debugText flags 8 x) ⌝ }
 {
@@ -85,6 +90,7 @@ pub fn compute_debug_len_i8(x: i8, flags: FormattingFlags) -> usize
     }
 }
 
+// How long an i16 is in the form that the flags say.
 pub fn compute_debug_len_i16(x: i16, flags: FormattingFlags) -> usize
     ensures { λ r. ⌜ r ≡ length (debugText flags 16 x) ⌝ }
 {
@@ -96,6 +102,7 @@ pub fn compute_debug_len_i16(x: i16, flags: FormattingFlags) -> usize
     }
 }
 
+// How long an i32 is in the form that the flags say.
 pub fn compute_debug_len_i32(x: i32, flags: FormattingFlags) -> usize
     ensures { λ r. ⌜ r ≡ length (debugText flags 32 x) ⌝ }
 {
@@ -107,6 +114,7 @@ pub fn compute_debug_len_i32(x: i32, flags: FormattingFlags) -> usize
     }
 }
 
+// How long an i64 is in the form that the flags say.
 pub fn compute_debug_len_i64(x: i64, flags: FormattingFlags) -> usize
     ensures { λ r. ⌜ r ≡ length (debugText flags 64 x) ⌝ }
 {

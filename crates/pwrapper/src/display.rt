@@ -59,30 +59,35 @@ fn number_of_digits_64(n: u64) -> usize
     number_of_digits_32(n)
 }
 
+// How long a u8 is in decimal.
 pub fn compute_display_len_u8(n: u8) -> usize
     ensures { λ r. ⌜ r ≡ length (displayText (pos n)) ⌝ }
 {
     number_of_digits_8(n as u64)
 }
 
+// How long a u16 is in decimal.
 pub fn compute_display_len_u16(n: u16) -> usize
     ensures { λ r. ⌜ r ≡ length (displayText (pos n)) ⌝ }
 {
     number_of_digits_16(n as u64)
 }
 
+// How long a u32 is in decimal.
 pub fn compute_display_len_u32(n: u32) -> usize
     ensures { λ r. ⌜ r ≡ length (displayText (pos n)) ⌝ }
 {
     number_of_digits_32(n as u64)
 }
 
+// How long a u64 is in decimal.
 pub fn compute_display_len_u64(n: u64) -> usize
     ensures { λ r. ⌜ r ≡ length (displayText (pos n)) ⌝ }
 {
     number_of_digits_64(n)
 }
 
+// How long an i8 is in decimal.
 pub fn compute_display_len_i8(x: i8) -> usize
     ensures { λ r. ⌜ r ≡ length (displayText x) ⌝ }
 {
@@ -93,6 +98,7 @@ pub fn compute_display_len_i8(x: i8) -> usize
     len
 }
 
+// How long an i16 is in decimal.
 pub fn compute_display_len_i16(x: i16) -> usize
     ensures { λ r. ⌜ r ≡ length (displayText x) ⌝ }
 {
@@ -103,6 +109,7 @@ pub fn compute_display_len_i16(x: i16) -> usize
     len
 }
 
+// How long an i32 is in decimal.
 pub fn compute_display_len_i32(x: i32) -> usize
     ensures { λ r. ⌜ r ≡ length (displayText x) ⌝ }
 {
@@ -113,6 +120,7 @@ pub fn compute_display_len_i32(x: i32) -> usize
     len
 }
 
+// How long an i64 is in decimal.
 pub fn compute_display_len_i64(x: i64) -> usize
     ensures { λ r. ⌜ r ≡ length (displayText x) ⌝ }
 {

@@ -17,6 +17,7 @@ pub struct DebugLen {
     pub answer: Answer,
 }
 
+// How long a string is between quotation marks, its escapes included.
 pub fn compute_utf8_debug_len(s: &[u8]) -> DebugLen
     ensures { λ r. ⌜ r ≡ countOf (length (quoted (now (s .entry)))) ⌝ }
 {

@@ -26,6 +26,7 @@ fn binary_count(n: u64) -> usize
     if i == 0 { 1 } else { i as usize }
 }
 
+// How long a u64 is in hexadecimal, its prefix included.
 pub fn hexadecimal_len_u64(n: u64, flags: FormattingFlags) -> usize
     ensures { λ r. ⌜ r ≡ length (hexText flags n) ⌝ }
 {
@@ -33,6 +34,7 @@ pub fn hexadecimal_len_u64(n: u64, flags: FormattingFlags) -> usize
     if flags.is_alternate { len + 2 } else { len }
 }
 
+// How long a u64 is in binary, its prefix included.
 pub fn binary_len_u64(n: u64, flags: FormattingFlags) -> usize
     ensures { λ r. ⌜ r ≡ length (binText flags n) ⌝ }
 {
@@ -40,84 +42,98 @@ pub fn binary_len_u64(n: u64, flags: FormattingFlags) -> usize
     if flags.is_alternate { len + 2 } else { len }
 }
 
+// How long a u8 is in hexadecimal, its prefix included.
 pub fn hexadecimal_len_u8(n: u8, flags: FormattingFlags) -> usize
     ensures { λ r. ⌜ r ≡ length (hexText flags n) ⌝ }
 {
     hexadecimal_len_u64(n as u64, flags)
 }
 
+// How long a u16 is in hexadecimal, its prefix included.
 pub fn hexadecimal_len_u16(n: u16, flags: FormattingFlags) -> usize
     ensures { λ r. ⌜ r ≡ length (hexText flags n) ⌝ }
 {
     hexadecimal_len_u64(n as u64, flags)
 }
 
+// How long a u32 is in hexadecimal, its prefix included.
 pub fn hexadecimal_len_u32(n: u32, flags: FormattingFlags) -> usize
     ensures { λ r. ⌜ r ≡ length (hexText flags n) ⌝ }
 {
     hexadecimal_len_u64(n as u64, flags)
 }
 
+// How long the two's complement of an i8 is in hexadecimal, its prefix included.
 pub fn hexadecimal_len_i8(x: i8, flags: FormattingFlags) -> usize
     ensures { λ r. ⌜ r ≡ length (hexText flags (twosComplement 8 x)) ⌝ }
 {
     hexadecimal_len_u8(bits_i8(x), flags)
 }
 
+// How long the two's complement of an i16 is in hexadecimal, its prefix included.
 pub fn hexadecimal_len_i16(x: i16, flags: FormattingFlags) -> usize
     ensures { λ r. ⌜ r ≡ length (hexText flags (twosComplement 16 x)) ⌝ }
 {
     hexadecimal_len_u16(bits_i16(x), flags)
 }
 
+// How long the two's complement of an i32 is in hexadecimal, its prefix included.
 pub fn hexadecimal_len_i32(x: i32, flags: FormattingFlags) -> usize
     ensures { λ r. ⌜ r ≡ length (hexText flags (twosComplement 32 x)) ⌝ }
 {
     hexadecimal_len_u32(bits_i32(x), flags)
 }
 
+// How long the two's complement of an i64 is in hexadecimal, its prefix included.
 pub fn hexadecimal_len_i64(x: i64, flags: FormattingFlags) -> usize
     ensures { λ r. ⌜ r ≡ length (hexText flags (twosComplement 64 x)) ⌝ }
 {
     hexadecimal_len_u64(bits_i64(x), flags)
 }
 
+// How long a u8 is in binary, its prefix included.
 pub fn binary_len_u8(n: u8, flags: FormattingFlags) -> usize
     ensures { λ r. ⌜ r ≡ length (binText flags n) ⌝ }
 {
     binary_len_u64(n as u64, flags)
 }
 
+// How long a u16 is in binary, its prefix included.
 pub fn binary_len_u16(n: u16, flags: FormattingFlags) -> usize
     ensures { λ r. ⌜ r ≡ length (binText flags n) ⌝ }
 {
     binary_len_u64(n as u64, flags)
 }
 
+// How long a u32 is in binary, its prefix included.
 pub fn binary_len_u32(n: u32, flags: FormattingFlags) -> usize
     ensures { λ r. ⌜ r ≡ length (binText flags n) ⌝ }
 {
     binary_len_u64(n as u64, flags)
 }
 
+// How long the two's complement of an i8 is in binary, its prefix included.
 pub fn binary_len_i8(x: i8, flags: FormattingFlags) -> usize
     ensures { λ r. ⌜ r ≡ length (binText flags (twosComplement 8 x)) ⌝ }
 {
     binary_len_u8(bits_i8(x), flags)
 }
 
+// How long the two's complement of an i16 is in binary, its prefix included.
 pub fn binary_len_i16(x: i16, flags: FormattingFlags) -> usize
     ensures { λ r. ⌜ r ≡ length (binText flags (twosComplement 16 x)) ⌝ }
 {
     binary_len_u16(bits_i16(x), flags)
 }
 
+// How long the two's complement of an i32 is in binary, its prefix included.
 pub fn binary_len_i32(x: i32, flags: FormattingFlags) -> usize
     ensures { λ r. ⌜ r ≡ length (binText flags (twosComplement 32 x)) ⌝ }
 {
     binary_len_u32(bits_i32(x), flags)
 }
 
+// How long the two's complement of an i64 is in binary, its prefix included.
 pub fn binary_len_i64(x: i64, flags: FormattingFlags) -> usize
     ensures { λ r. ⌜ r ≡ length (binText flags (twosComplement 64 x)) ⌝ }
 {

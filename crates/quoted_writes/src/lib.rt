@@ -24,6 +24,7 @@ use str_writer::range_fault;
 use utils::Range;
 use utils::saturate_range;
 
+// Writes a string between quotation marks at the cursor.
 pub fn write_str_debug(buf: &mut [u8], at: usize, s: &[u8]) -> Written
     ensures { λ r. ⌜ outcome r (now (buf .exit)) ≡ write defaultFlags (now (buf .entry)) at (str debug (now (s .entry)) (whole (now (s .entry)))) ⌝ }
 {
@@ -34,6 +35,7 @@ pub fn write_str_debug(buf: &mut [u8], at: usize, s: &[u8]) -> Written
     put_quoted(buf, at, s)
 }
 
+// Writes the part of a string in the clamped range, between quotation marks at the cursor.
 pub fn write_str_range_debug(buf: &mut [u8], at: usize, s: &[u8], range: Range) -> Written
     ensures { λ r. ⌜ outcome r (now (buf .exit)) ≡ write defaultFlags (now (buf .entry)) at (str debug (now (s .entry)) range) ⌝ }
 {
@@ -48,6 +50,7 @@ pub fn write_str_range_debug(buf: &mut [u8], at: usize, s: &[u8], range: Range) 
     put_quoted_part(buf, at, s, range)
 }
 
+// Writes ASCII text between quotation marks at the cursor.
 pub fn write_ascii_debug(buf: &mut [u8], at: usize, s: &[u8]) -> Written
     ensures { λ r. ⌜ outcome r (now (buf .exit)) ≡ write defaultFlags (now (buf .entry)) at (ascii debug (now (s .entry)) (whole (now (s .entry)))) ⌝ }
 {
@@ -55,6 +58,7 @@ pub fn write_ascii_debug(buf: &mut [u8], at: usize, s: &[u8]) -> Written
     write_ascii_range_debug(buf, at, s, Range { start: 0, end })
 }
 
+// Writes the part of ASCII text in the clamped range, between quotation marks at the cursor.
 pub fn write_ascii_range_debug(buf: &mut [u8], at: usize, s: &[u8], range: Range) -> Written
     ensures { λ r. ⌜ outcome r (now (buf .exit)) ≡ write defaultFlags (now (buf .entry)) at (ascii debug (now (s .entry)) range) ⌝ }
 {

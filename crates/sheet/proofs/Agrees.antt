@@ -1,32 +1,30 @@
 -- Demand 3 on a call sheet, from the theorem about whole lists of calls.
 use mathlib.Core.Bool.{Bool, true, false, cond}
 use mathlib.Core.Option.{Option, none, some}
-use mathlib.Core.Path.{_≡_, refl, ap, _∙_, sym}
-use mathlib.Core.Logic.{_↔_}
+use mathlib.Core.Path.{_≡_, refl, ap, _∙_}
 use mathlib.Core.List.{List, [], _∷_, _++_, map, append-assoc}
-use Prim.Native.Nat.{ℕ, zero, suc, _+_, _-_, _^_, _≤_, _<_}
+use Prim.Native.Nat.{ℕ, zero, suc, _+_, _-_, _^_, _≤_}
 use native.Mathlib.Omega.{arith}
 use lib.Dec.{ltb}
 use lib.ListN.{length, take, drop, replicate, length-append, length-replicate}
-use lib.Seq.{take-append-seam, take-at}
+use lib.Seq.{take-at}
 use borrow.Author.Tests.{ltb-false}
 use Rattle.formatting.specs.declared.flags.FormattingFlags.{FormattingFlags}
 use Rattle.calls.specs.Call.{Call}
-use Rattle.calls.specs.Model.{numberIn, State, step, run, most}
-use Rattle.agreement.specs.Agreement.{AllDone, Proper, definedText, Counted, Written}
+use Rattle.calls.specs.Model.{step, run}
+use Rattle.agreement.specs.Agreement.{AllDone, definedText, Counted, Written}
 use Rattle.agreement.proofs.Agree.{agree}
-use Rattle.fields.specs.Fields.{bytes, same, fields}
+use Rattle.formatting.specs.Bytes.{bytes}
+use Rattle.fields.specs.Fields.{same, fields}
 use Rattle.fields.specs.Decimal.{decimalOf, upTo}
 use Rattle.sheet_line.specs.declared.begin.Flags.{Flags}
 use Rattle.sheet_line.specs.declared.begin.Flags.the-variants.{Are, NoFlags}
-use Rattle.sheet_line.specs.declared.begin.Begin.{Begin}
 use Rattle.sheet_line.specs.declared.begin.Begin.the-variants.{Bad, BadCursor, Fresh}
 use Rattle.sheet_line.specs.Begin.{flagFields, sized, sizeFields, beginFields, beginOf}
 use Rattle.sheet_line.specs.Line.{callOfLine}
-use Rattle.sheet.specs.Sheet.{Sheet, freshSheet, Stepped, stepped, endLine, endText}
-use Rattle.lines.specs.Lines.{linesOf}
-use Rattle.sheet.specs.Printed.{printedFrom, printedAfter, printedLines, printed}
-use Rattle.sheet.specs.SheetAgreement.{rowsFrom, sheetAfter, rowsText, AllZero, countingAnswers, writingAnswers, sheetRows, SheetOf, Shows, SheetAgrees}
+use Rattle.sheet.specs.Sheet.{Sheet, freshSheet, endText}
+use Rattle.sheet.specs.Printed.{printedFrom, printed}
+use Rattle.sheet.specs.SheetAgreement.{rowsFrom, sheetAfter, rowsText, AllZero, countingAnswers, writingAnswers, sheetRows, SheetAgrees}
 
 -- a run that begins has its cursor in the buffer
 module _ (n p : ℕ) (f : FormattingFlags) where

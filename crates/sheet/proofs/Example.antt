@@ -7,7 +7,8 @@ use Rattle.pwrapper.specs.Digits.{digitText, digits, digitsIn}
 use Rattle.str_writer.specs.Value.{textOf, inputFault, cutFault, leaves}
 use Rattle.str_writer.specs.Write.{placed}
 use Rattle.calls.proofs.Known.{plain, sheet}
-use Rattle.fields.specs.Fields.{bytes, same, fields}
+use Rattle.formatting.specs.Bytes.{bytes}
+use Rattle.fields.specs.Fields.{same, fields}
 use Rattle.fields.specs.Decimal.{readFrom, isShortest}
 use Rattle.fields.specs.Hex.{isHex, hexBytes, hexPairs}
 use Rattle.sheet_line.specs.Begin.{formatOf, digitsOf, layoutOf, beginOf}

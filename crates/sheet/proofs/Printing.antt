@@ -1,15 +1,14 @@
 -- Pieces put one after another are the text that they make, put at once.
-use mathlib.Core.Path.{_≡_, refl, ap, sym, _∙_}
+use mathlib.Core.Path.{_≡_, ap, _∙_}
 use mathlib.Core.List.{List, [], _∷_, _++_}
 use Prim.Native.Nat.{ℕ, _+_, _-_, _*_, _/_, _≤_, _<_}
 use native.Mathlib.Omega.{arith}
 use lib.ListN.{length, take, drop, length-append, length-take}
 use lib.Seq.{take-append-seam}
-use Rattle.error.specs.declared.Answer.the-variants.{Done}
 use Rattle.str_writer.specs.declared.piece.Written.{Written}
 use Rattle.str_writer.specs.Write.{Outcome, outcome, splice, put}
 use Rattle.str_writer.proofs.Splice.{splice-splice, length-splice}
-use Rattle.fields.specs.Fields.{bytes}
+use Rattle.formatting.specs.Bytes.{bytes}
 use Rattle.fields.specs.Decimal.{cell}
 use Rattle.fields.specs.Hex.{hexPairs}
 use Rattle.fields.proofs.Cells.{put-fits}

@@ -1,23 +1,22 @@
 -- A line answered: both runs advanced by a call, or none.
-use mathlib.Core.Bool.{Bool, true, false}
+use mathlib.Core.Bool.{true, false}
 use mathlib.Core.Option.{Option, none, some}
-use mathlib.Core.Path.{_≡_, refl, ap, sym, _∙_}
+use mathlib.Core.Path.{_≡_, refl}
 use mathlib.Core.List.{List, [], _∷_}
 use Prim.Native.Nat.{ℕ, zero, suc, _%_, _≤_}
 use native.Mathlib.Omega.{arith}
-use lib.ListN.{length, take}
+use lib.ListN.{length}
 use Rattle.calls.specs.Call.{Call}
-use Rattle.calls.specs.Model.{numberIn, Mode, Out, step}
+use Rattle.calls.specs.Model.{numberIn, step}
 use Rattle.str_writer.specs.declared.piece.Written.{Written}
 use Rattle.str_writer.specs.Write.{outcome, put}
 use Rattle.writer_backend.specs.declared.pieces.WriterBackend.{WriterBackend}
 use Rattle.writer_backend.specs.Output.{asMode, modeOf}
-use Rattle.formatter.specs.declared.head.Head.{Head}
 use Rattle.formatter.specs.declared.head.HeadStep.{HeadStep}
 use Rattle.formatter.specs.View.{view, viewOut}
 use Rattle.formatter.specs.Calls.{stepOr}
 use Rattle.sheet.specs.declared.Sheet as code
-use Rattle.sheet.specs.Sheet.{Sheet, rowText, rowOf, badText, stepped}
+use Rattle.sheet.specs.Sheet.{Sheet, rowText, badText, stepped}
 use Rattle.sheet.specs.SheetView.{sheetOf, isSome, Step, steppedOf, stepping, LineAnswer, answering}
 
 number-of : (t n : ℕ) → numberIn (asMode t n) ≡ n

@@ -8,7 +8,7 @@ use Rattle.sheet_line.specs.declared.begin.Begin.{Begin}
 use Rattle.sheet_line.specs.declared.begin.Begin.the-variants.{Bad, BadCursor, Fresh}
 use Rattle.sheet_line.specs.Begin.{beginOf}
 use Rattle.sheet_line.specs.Line.{callOfLine}
-use Rattle.sheet.specs.Sheet.{Sheet, freshSheet, badText, refusedText, endText, Stepped, stepped}
+use Rattle.sheet.specs.Sheet.{Sheet, freshSheet, badText, refusedText, endText, stepped}
 
 -- 'The call sheet': from line k on; `bad` ends the run without `end`
 abbrev pub printedFrom : ℕ → Sheet → List (List ℕ) → List ℕ

@@ -7,7 +7,7 @@ use lib.ListN.{take}
 use Rattle.calls.specs.declared.Settings.{Settings}
 use Rattle.calls.specs.Call.{Call}
 use Rattle.calls.specs.Model.{numberIn, counting, writing, State, Out, step, start}
-use Rattle.fields.specs.Fields.{bytes}
+use Rattle.formatting.specs.Bytes.{bytes}
 use Rattle.fields.specs.Decimal.{cell}
 use Rattle.fields.specs.Hex.{hexPairs}
 use Rattle.sheet.specs.declared.print.Row.{Row}

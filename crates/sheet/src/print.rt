@@ -5,7 +5,7 @@ ghost use Prim.Native.Nat.{_≤_};
 ghost use lib.ListN.{length};
 ghost use Rattle.str_writer.specs.Write.{outcome, splice};
 ghost use Rattle.str_writer.specs.Write.{put as putText};
-ghost use Rattle.fields.specs.Fields.{bytes};
+ghost use Rattle.formatting.specs.Bytes.{bytes};
 ghost use Rattle.fields.specs.Decimal.{cell};
 ghost use Rattle.sheet.specs.Sheet.{rowText, maxRow, badText, refusedText, endLine, maxEnd};
 use error::Answer;

@@ -3,17 +3,16 @@ use mathlib.Core.Bool.{Bool, true, false, cond}
 use mathlib.Core.Option.{Option, none, some, Option·map}
 use mathlib.Core.Path.{_≡_, refl, ap, sym}
 use mathlib.Core.List.{List, [], _∷_}
-use Prim.Native.Nat.{ℕ, zero, suc, _+_, _-_, _/_, _^_, _≤_, _<_}
+use Prim.Native.Nat.{ℕ, zero, suc, _+_, _-_, _/_, _^_, _≤_}
 use native.Mathlib.Omega.{arith}
-use lib.Dec.{leb, eqb}
-use lib.IntN.{ℤ, pos, negsuc}
+use lib.Dec.{leb}
+use lib.IntN.{pos}
 use lib.ListN.{length, take, drop, getD}
 use Rattle.fields.proofs.Splitting.{rest-all}
 use mir.Syntax.{w64}
 use mir.Val.{toZ}
 use mir.Facts.{toZ-neg}
 use borrow.Author.Tests.{leb-true, eq-eqb, ne-eqb}
-use Rattle.calls.specs.Call.{Call}
 use Rattle.value_writes.specs.declared.Width.{Width}
 use Rattle.value_writes.specs.Values.{bitsOf}
 use Rattle.encoded_call.proofs.Decoding.{half}

@@ -1,12 +1,11 @@
 -- A call read from a line, with its text in the buffer or without one.
 use mathlib.Core.Bool.{Bool, true, false, cond}
 use mathlib.Core.Option.{Option, none, some, Option·map}
-use mathlib.Core.Path.{_≡_, refl, ap, sym, _∙_}
-use mathlib.Core.List.{List, [], _∷_}
+use mathlib.Core.Path.{_≡_, refl, ap, _∙_}
+use mathlib.Core.List.{List, []}
 use Prim.Native.Nat.{ℕ, _*_, _-_, _^_, _≤_}
 use native.Mathlib.Omega.{arith}
-use lib.Dec.{leb}
-use lib.ListN.{length, take}
+use lib.ListN.{length}
 use lib.Seq.{take-append-seam}
 use borrow.Author.Tests.{le-leb}
 use Rattle.calls.specs.declared.Kind.the-variants.{Set}
@@ -18,7 +17,8 @@ use Rattle.str_writer.proofs.Splice.{splice-nil}
 use Rattle.formatter.specs.declared.dispatch.Op.{Op}
 use Rattle.formatter.specs.declared.dispatch.Op.the-variants.{Nothing}
 use Rattle.formatter.specs.Calls.{callOf}
-use Rattle.fields.specs.Fields.{bytes, same}
+use Rattle.formatting.specs.Bytes.{bytes}
+use Rattle.fields.specs.Fields.{same}
 use Rattle.fields.specs.Decimal.{decimalOf, upTo}
 use Rattle.fields.specs.declared.hex.HexBytes.{HexBytes}
 use Rattle.fields.specs.declared.hex.HexBytes.the-variants.{Are, NotHex}
@@ -29,7 +29,7 @@ use Rattle.sheet_line.specs.declared.texts.TextCall.{TextCall}
 use Rattle.sheet_line.specs.declared.texts.TextCall.the-variants.{Open, Field, Str}
 use Rattle.sheet_line.specs.declared.numbers.IntType.{IntType}
 use Rattle.sheet_line.specs.Line.{valueIn, typeBits, numCall, charCall, oneField, openBare}
-use Rattle.sheet_line.specs.Reading.{withText, callText, textIn, Reading, reading, readInto}
+use Rattle.sheet_line.specs.Reading.{withText, callText, textIn, reading, readInto}
 
 -- the text of a call that has one
 text-of : (t : TextCall) (s : List ℕ) → callText (withText t s) ≡ s

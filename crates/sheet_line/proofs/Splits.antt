@@ -1,13 +1,14 @@
 -- A line cut at its commas, as the code cuts it.
 use mathlib.Core.Bool.{Bool, true, false, cond}
 use mathlib.Core.Option.{Option, none, some}
-use mathlib.Core.Path.{_≡_, refl, ap, sym, _∙_}
+use mathlib.Core.Path.{_≡_, refl, sym, _∙_}
 use mathlib.Core.List.{List, [], _∷_}
-use Prim.Native.Nat.{ℕ, _+_, _-_, _^_, _≤_, _<_}
+use Prim.Native.Nat.{ℕ, _+_, _-_, _^_, _<_}
 use native.Mathlib.Omega.{arith}
 use lib.Dec.{eqb}
 use lib.ListN.{length, take, drop}
-use Rattle.fields.specs.Fields.{bytes, same, indexOf, longer, fields}
+use Rattle.formatting.specs.Bytes.{bytes}
+use Rattle.fields.specs.Fields.{same, indexOf, longer, fields}
 use Rattle.fields.specs.Decimal.{decimalOf, upTo}
 use Rattle.fields.proofs.Splitting.{index-le, fields-one, fields-more, rest-all}
 use Rattle.sheet_line.specs.declared.begin.Flags.the-variants.{NoFlags}

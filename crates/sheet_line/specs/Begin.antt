@@ -5,11 +5,11 @@ use mathlib.Core.Option.{Option, none, some}
 use Prim.Native.Nat.{ℕ, _-_, _^_}
 use lib.Dec.{ltb}
 use lib.ListN.{length}
-use Rattle.formatting.specs.declared.flags.FormattingFlags.{FormattingFlags}
 use Rattle.formatting.specs.declared.flags.NumberFormatting.the-variants.{Decimal, Hexadecimal, Binary}
 use Rattle.formatting.specs.declared.flags.HexFormatting.the-variants.{Upper, Lower}
 use Rattle.lines.specs.Lines.{maxLine}
-use Rattle.fields.specs.Fields.{bytes, same, fields}
+use Rattle.formatting.specs.Bytes.{bytes}
+use Rattle.fields.specs.Fields.{same, fields}
 use Rattle.fields.specs.Decimal.{decimalOf, upTo}
 use Rattle.sheet_line.specs.declared.begin.Format.{Format}
 use Rattle.sheet_line.specs.declared.begin.Format.the-variants.{Base, NoBase}

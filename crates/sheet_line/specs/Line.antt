@@ -1,12 +1,11 @@
 -- Document 01, 'The call sheet': the call that a line means.
-use mathlib.Core.Bool.{Bool, true, false, cond}
+use mathlib.Core.Bool.{cond}
 use mathlib.Core.List.{List, [], _∷_}
 use mathlib.Core.Option.{Option, none, some, Option·map}
 use Prim.Native.Nat.{ℕ, zero, suc, _-_, _^_}
 use lib.Dec.{eqb, ltb}
 use lib.IntN.{ℤ, pos, negsuc}
 use lib.ListN.{length}
-use Rattle.calls.specs.declared.Kind.{Kind}
 use Rattle.calls.specs.declared.Kind.the-variants.{Struct, Tuple, Set}
 use Rattle.calls.specs.declared.Kind.the-variants as kind
 use Rattle.calls.specs.Call.{Call, opens, place, value, finish, field, item, entry}
@@ -14,7 +13,8 @@ use Rattle.str_writer.specs.Value.{integer, char, str, display, debug, whole}
 use Rattle.value_writes.specs.declared.Width.the-variants.{W8, W16, W32, W64}
 use Rattle.value_writes.specs.Values.{bitsOf}
 use Rattle.lines.specs.Lines.{maxLine}
-use Rattle.fields.specs.Fields.{bytes, same, fields}
+use Rattle.formatting.specs.Bytes.{bytes}
+use Rattle.fields.specs.Fields.{same, fields}
 use Rattle.fields.specs.Decimal.{decimalOf, upTo}
 use Rattle.fields.specs.Hex.{fromHex}
 use Rattle.sheet_line.specs.declared.numbers.IntType.{IntType}

@@ -27,6 +27,7 @@ pub enum IntType {
     NoType,
 }
 
+// The type that `u8` to `u64` or `i8` to `i64` names.
 pub fn int_type(t: &[u8]) -> IntType
     ensures { λ r. ⌜ r ≡ typeOf (now (t .entry)) ⌝ }
 {

@@ -7,13 +7,14 @@ use Prim.Native.Nat.{ℕ, suc, _+_, _-_, _*_, _^_, _≤_, _<_}
 use native.Mathlib.Numerals.{add-one}
 use native.Mathlib.Omega.{arith}
 use borrow.Author.Tests.{leb-true, eq-eqb, ne-eqb}
-use lib.Dec.{eqb, ltb, leb}
+use lib.Dec.{ltb, leb}
 use lib.ListN.{length, take, drop, set, replicate, length-append, length-take}
 use lib.Seq.{take-suc-set, append-snoc, take-at, length-take-le}
 use Rattle.str_writer.specs.declared.piece.Written.{Written}
 use Rattle.str_writer.specs.Write.{Outcome, outcome, splice, put}
 use Rattle.fields.proofs.Cells.{put-fits}
-use Rattle.fields.specs.Fields.{bytes, same, fields}
+use Rattle.formatting.specs.Bytes.{bytes}
+use Rattle.fields.specs.Fields.{same, fields}
 use Rattle.fields.specs.Decimal.{decimalOf, upTo}
 use Rattle.sheet_line.specs.declared.begin.Begin.the-variants.{Bad, BadCursor, Fresh}
 use Rattle.sheet_line.specs.declared.begin.Flags.{Flags}

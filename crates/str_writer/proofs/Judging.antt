@@ -11,7 +11,7 @@ use lib.Dec.{ltb}
 use lib.ListN.{length}
 use borrow.Author.Tests.{lt-ltb, le-ltb, ltb-true, ltb-false}
 use Rattle.error.specs.declared.Answer.{Answer}
-use Rattle.error.specs.declared.Answer.the-variants.{Done, NotAscii, NotOnCharBoundary, NotUtf8, NotAChar, BadCursor}
+use Rattle.error.specs.declared.Answer.the-variants.{Done, NotOnCharBoundary, NotUtf8, NotAChar, BadCursor}
 use Rattle.error.specs.Answer.{answerOf, isDone}
 use Rattle.formatting.specs.declared.flags.FormattingFlags.{FormattingFlags}
 use Rattle.utf8.specs.Utf8.{wellFormed, isScalar}

@@ -4,7 +4,7 @@ use mathlib.Core.Logic.{dite}
 use mathlib.Core.Option.{none, some}
 use mathlib.Core.Path.{_≡_, refl, sym, ap, _∙_}
 use mathlib.Core.List.{List, [], _∷_, _++_}
-use Prim.Native.Nat.{ℕ, _+_, _-_, _%_, _≤_, _<_, min}
+use Prim.Native.Nat.{ℕ, _+_, _-_, _%_, _≤_, min}
 use native.Mathlib.Decide.{decLt}
 use native.Mathlib.Nat.{min-eq-left, min-le-right, le-refl, sub-zero, zero-min}
 use native.Mathlib.Omega.{arith}

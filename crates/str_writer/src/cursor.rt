@@ -40,12 +40,14 @@ pub fn len(at: usize) -> usize
     at
 }
 
+// Whether the text is empty.
 pub fn is_empty(at: usize) -> bool
     ensures { λ r. ⌜ r ≡ eqb at 0 ⌝ }
 {
     at == 0
 }
 
+// How many bytes the buffer has.
 pub fn capacity(buf: &[u8]) -> usize
     ensures { λ r. ⌜ r ≡ ListN.length (now (buf .entry)) ⌝ }
 {

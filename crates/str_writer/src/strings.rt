@@ -18,6 +18,7 @@ use crate::piece::put_part;
 use error::Answer;
 use utils::Range;
 
+// Writes a string at the cursor.
 pub fn write_str(buf: &mut [u8], at: usize, s: &[u8]) -> Written
     ensures { λ r. ⌜ outcome r (now (buf .exit)) ≡ write defaultFlags (now (buf .entry)) at (str display (now (s .entry)) (whole (now (s .entry)))) ⌝ }
 {
@@ -28,6 +29,7 @@ pub fn write_str(buf: &mut [u8], at: usize, s: &[u8]) -> Written
     put(buf, at, s)
 }
 
+// Writes the part of a string in the clamped range at the cursor.
 pub fn write_str_range(buf: &mut [u8], at: usize, s: &[u8], range: Range) -> Written
     ensures { λ r. ⌜ outcome r (now (buf .exit)) ≡ write defaultFlags (now (buf .entry)) at (str display (now (s .entry)) range) ⌝ }
 {
@@ -42,6 +44,7 @@ pub fn write_str_range(buf: &mut [u8], at: usize, s: &[u8], range: Range) -> Wri
     put_part(buf, at, s, range)
 }
 
+// Writes ASCII text at the cursor.
 pub fn write_ascii(buf: &mut [u8], at: usize, s: &[u8]) -> Written
     ensures { λ r. ⌜ outcome r (now (buf .exit)) ≡ write defaultFlags (now (buf .entry)) at (ascii display (now (s .entry)) (whole (now (s .entry)))) ⌝ }
 {
@@ -49,6 +52,7 @@ pub fn write_ascii(buf: &mut [u8], at: usize, s: &[u8]) -> Written
     write_ascii_range(buf, at, s, Range { start: 0, end })
 }
 
+// Writes the part of ASCII text in the clamped range at the cursor.
 pub fn write_ascii_range(buf: &mut [u8], at: usize, s: &[u8], range: Range) -> Written
     ensures { λ r. ⌜ outcome r (now (buf .exit)) ≡ write defaultFlags (now (buf .entry)) at (ascii display (now (s .entry)) range) ⌝ }
 {
@@ -59,6 +63,7 @@ pub fn write_ascii_range(buf: &mut [u8], at: usize, s: &[u8], range: Range) -> W
     put_part(buf, at, s, range)
 }
 
+// Writes a character at the cursor.
 pub fn write_char(buf: &mut [u8], at: usize, c: u32) -> Written
     ensures { λ r. ⌜ outcome r (now (buf .exit)) ≡ write defaultFlags (now (buf .entry)) at (char display c) ⌝ }
 {
@@ -69,6 +74,7 @@ pub fn write_char(buf: &mut [u8], at: usize, c: u32) -> Written
     put_char(buf, at, c)
 }
 
+// Writes a character between quotation marks at the cursor.
 pub fn write_char_debug(buf: &mut [u8], at: usize, c: u32) -> Written
     ensures { λ r. ⌜ outcome r (now (buf .exit)) ≡ write defaultFlags (now (buf .entry)) at (char debug c) ⌝ }
 {

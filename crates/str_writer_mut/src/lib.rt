@@ -52,6 +52,7 @@ impl<'w> StrWriterMut<'w> {
         self.len
     }
 
+    // Writes a string at the cursor.
     pub fn write_str(&mut self, s: &[u8]) -> Answer
         ensures { λ r. ⌜ Gives r (now (self .entry)) (now (self .exit)) (write defaultFlags (now (now (self .entry) .buffer)) (now (self .entry) .len) (str display (now (s .entry)) (whole (now (s .entry))))) ⌝ }
     {
@@ -61,6 +62,7 @@ impl<'w> StrWriterMut<'w> {
         r.answer
     }
 
+    // Writes a string between quotation marks at the cursor.
     pub fn write_str_debug(&mut self, s: &[u8]) -> Answer
         ensures { λ r. ⌜ Gives r (now (self .entry)) (now (self .exit)) (write defaultFlags (now (now (self .entry) .buffer)) (now (self .entry) .len) (str debug (now (s .entry)) (whole (now (s .entry))))) ⌝ }
     {

@@ -1,6 +1,6 @@
 -- A run whose flags are a number below 12 is the run with these flags; with others nothing is played.
 use mathlib.Core.Bool.{true, false}
-use mathlib.Core.Path.{_≡_, refl, sym}
+use mathlib.Core.Path.{_≡_, refl}
 use mathlib.Core.List.{List, []}
 use Prim.Native.Nat.{ℕ, zero, suc, _≤_, _<_}
 use native.Mathlib.Omega.{arith}
@@ -8,11 +8,11 @@ use lib.Dec.{ltb}
 use lib.ListN.{length}
 use borrow.Author.Tests.{lt-ltb, le-ltb}
 use Rattle.calls.specs.Call.{hold}
-use Rattle.calls.specs.Model.{Mode, counting, writing, start}
+use Rattle.calls.specs.Model.{Mode, counting, start}
 use Rattle.encoded_call.specs.Encoding.{decode}
-use Rattle.run.specs.Played.{Played, played, runOr, stored, endCounted, endWritten, WritesAsCounted}
+use Rattle.run.specs.Played.{played, runOr, stored, endCounted, endWritten, WritesAsCounted}
 use Rattle.run.proofs.Playing.{stored-none}
-use Rattle.table_text.specs.Exported.{settingsBy, runBy, playedBy, countEnd, countAnswers, writeEnd, writeAnswers}
+use Rattle.table_text.specs.Exported.{settingsBy, runBy, playedBy, countEnd, writeEnd}
 
 hold-done : (a : ℕ) → hold a 0 ≡ a
 hold-done zero = refl

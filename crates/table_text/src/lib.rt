@@ -6,15 +6,29 @@
 ghost use mathlib.Core.Path.{_≡_};
 ghost use mathlib.Core.List.{[]};
 ghost use Prim.Native.Nat.{_<_};
+ghost use Rattle.error.specs.Answer.{numberOf};
 ghost use Rattle.calls.specs.Model.{counting, writing};
 ghost use Rattle.encoded_call.specs.Encoding.{decode};
 ghost use Rattle.run.specs.Played.{endCounted, endWritten, stored, CountAgrees, WriteAgrees, WritesAsCounted};
 ghost use Rattle.table_text.specs.Exported.{settingsBy, countEnd, countAnswers, writeEnd, writeAnswers};
 use calls::Settings;
+use error::Answer;
 use formatting::flags_of;
 use run::Ran;
 use run::count_run_each;
 use run::write_run_each;
+
+// The end of a run of which nothing is played.
+fn unplayed(answer: Answer, number: usize) -> Ran
+    ensures { λ r. ⌜ r ≡ record { first = numberOf answer; number = number; place = 0; entries = 0 } ⌝ }
+{
+    Ran {
+        first: answer.number(),
+        number,
+        place: 0,
+        entries: 0,
+    }
+}
 
 // A run counted, with each call's answer as far as there is room.
 fn count(flags: u64, calls: &[u64], text: &[u8], answers: &mut [u8]) -> Ran
@@ -23,12 +37,7 @@ fn count(flags: u64, calls: &[u64], text: &[u8], answers: &mut [u8]) -> Ran
     ensures { λ r. ⌜ (flags < 12 → CountAgrees (settingsBy flags) (decode (now (calls .entry)) (now (text .entry))) (r .first) (r .number)) ⌝ }
 {
     if 11 < flags {
-        return Ran {
-            first: 8,
-            number: 0,
-            place: 0,
-            entries: 0,
-        };
+        return unplayed(Answer::WrongCall, 0);
     }
     let settings = Settings {
         flags: flags_of(flags),
@@ -51,13 +60,10 @@ fn write(
     ensures { λ r. ⌜ WritesAsCounted (countEnd flags (now (calls .entry)) (now (text .entry))) (settingsBy flags) (decode (now (calls .entry)) (now (text .entry))) (now (buf .entry)) at (r .first) (r .number) (now (buf .exit)) ⌝ }
 {
     if 11 < flags {
-        let first = if buf.len() < at { 9 } else { 8 };
-        return Ran {
-            first,
-            number: at,
-            place: 0,
-            entries: 0,
-        };
+        if buf.len() < at {
+            return unplayed(Answer::BadCursor, at);
+        }
+        return unplayed(Answer::WrongCall, at);
     }
     let settings = Settings {
         flags: flags_of(flags),

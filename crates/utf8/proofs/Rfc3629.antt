@@ -1,6 +1,6 @@
 -- Sections 3 and 4 of RFC 3629 agree: a text is well formed if and only if it is the octets of character numbers.
 use mathlib.Core.Bool.{true, false≢true, and-eq-true-iff}
-use mathlib.Core.Logic.{_↔_, dite}
+use mathlib.Core.Logic.{dite}
 use mathlib.Core.Option.{Option, none, some}
 use mathlib.Core.List.{List, [], _∷_, _++_}
 use mathlib.Core.Path.{_≡_, refl, sym, ap, subst, _∙_}

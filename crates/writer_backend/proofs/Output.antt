@@ -1,19 +1,21 @@
 -- One piece: its length added to a total, or its text written at the cursor.
 use mathlib.Core.Bool.{Bool, true, false, false≢true}
 use mathlib.Core.Path.{_≡_, refl, sym, _∙_}
-use mathlib.Core.List.{List}
+use mathlib.Core.List.{List, []}
 use Prim.Native.Nat.{ℕ, zero, suc, _+_, _%_, _≤_, _<_}
 use native.Mathlib.Omega.{arith}
 use lib.Dec.{eqb}
 use lib.ListN.{length}
 use borrow.Author.Tests.{lt-ltb}
-use Rattle.calls.specs.Model.{Mode, to, counting, writing, put, wrote}
-use Rattle.str_writer.specs.Write.{placed}
+use Rattle.error.specs.Answer.{numberOf}
+use Rattle.calls.specs.Model.{Mode, numberIn, to, counting, writing, putIn, put, wrote}
+use Rattle.str_writer.specs.declared.piece.Written.{Written}
+use Rattle.str_writer.specs.Write.{outcome, placed}
 use Rattle.str_writer.specs.Write.{put as putText}
 use Rattle.str_writer.proofs.Outcomes.{put-placed}
 use Rattle.str_writer.proofs.Splice.{splice-nil}
 use Rattle.writer_backend.specs.declared.pieces.WriterBackend.{WriterBackend}
-use Rattle.writer_backend.specs.Output.{asMode, modeOf, isCounting, withNumber, outputOf}
+use Rattle.writer_backend.specs.Output.{asMode, modeOf, isCounting, withNumber, added, outputOf}
 
 as-counting : (t n : ℕ) → isCounting (asMode t n) ≡ true → asMode t n ≡ counting n
 as-counting zero n e = absurd (false≢true e)
@@ -28,6 +30,14 @@ pub as-at : (t n x : ℕ) → asMode t x ≡ withNumber (asMode t n) x
 as-at zero n x = refl
 as-at (suc t) n x = refl
 
+as-number : (t n : ℕ) → numberIn (asMode t n) ≡ n
+as-number zero n = refl
+as-number (suc t) n = refl
+
+-- the number of the mode is that of the output
+pub number-in : (w : WriterBackend) → numberIn (modeOf w) ≡ w .number
+number-in w = as-number (w .mode % 2) (w .number)
+
 -- a remainder of 1 is counting
 pub by-remainder : (t n : ℕ) → t < 2 → eqb t 1 ≡ isCounting (asMode t n)
 by-remainder zero n h = refl
@@ -41,6 +51,14 @@ module _ (w : WriterBackend) {r : Bool} (e : r ≡ isCounting (modeOf w)) where
 
   pub writes : r ≡ false → modeOf w ≡ writing (w .number)
   writes t = as-writing (w .mode % 2) (w .number) (sym e ∙ t)
+
+  -- a length added to a total, where a text is counted
+  pub adds : r ≡ true → (b t : List ℕ) {n : ℕ} → n ≡ length t → added (modeOf w) b n ≡ putIn (modeOf w) b t (λ k. [])
+  adds q b t l = rw (counts q, l)
+
+  -- the outcome of a single write, where a text is written
+  pub wrote-at : r ≡ false → (x : Written) (b : List ℕ) → to (withNumber (modeOf w) (x .at)) b (numberOf (x .answer)) ≡ wrote (outcome x b)
+  wrote-at q x b = rw (writes q)
 
   pub counts-at : r ≡ true → {m : Mode} (x : ℕ) → m ≡ withNumber (modeOf w) x → m ≡ counting x
   counts-at t x q = q ∙ rw (counts t)

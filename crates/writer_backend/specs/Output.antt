@@ -1,8 +1,11 @@
 -- The model's output that a WriterBackend and the lent bytes are.
-use mathlib.Core.Bool.{Bool, true, false}
+use mathlib.Core.Bool.{Bool, true, false, cond}
 use mathlib.Core.List.{List}
-use Prim.Native.Nat.{ℕ, zero, suc, _%_}
-use Rattle.calls.specs.Model.{Mode, counting, writing, Output, PieceOutcome}
+use Prim.Native.Nat.{ℕ, zero, suc, _+_, _%_}
+use lib.Dec.{ltb}
+use Rattle.error.specs.declared.Answer.the-variants.{Done, CountTooLarge}
+use Rattle.error.specs.Answer.{numberOf}
+use Rattle.calls.specs.Model.{Mode, counting, writing, numberIn, Output, PieceOutcome, to, most}
 use Rattle.writer_backend.specs.declared.pieces.WriterBackend.{WriterBackend}
 use Rattle.writer_backend.specs.declared.pieces.Wrote.{Wrote}
 
@@ -24,6 +27,10 @@ isCounting (writing p) = false
 abbrev pub withNumber : Mode → ℕ → Mode
 withNumber (counting n) x = counting x
 withNumber (writing p) x = writing x
+
+-- Document 01, 'The answer to a call', 6: a length added to the number of a run, which is kept where it would pass 2^64 - 1
+abbrev pub added : Mode → List ℕ → ℕ → PieceOutcome
+added m b n = cond (ltb most (numberIn m + n)) (to m b (numberOf CountTooLarge)) (to (withNumber m (numberIn m + n)) b (numberOf Done))
 
 -- Document 01, 'Rust forms that cannot come along': the buffer lent beside it
 abbrev pub outputOf : WriterBackend → List ℕ → Output

@@ -1,15 +1,12 @@
 // A piece of text counted or written, and pieces tried one after another.
 ghost use mathlib.Core.Path.{_≡_};
-ghost use mathlib.Core.Bool.{true, false};
-ghost use mathlib.Core.List.{List, []};
+ghost use mathlib.Core.List.{List};
 ghost use Prim.Native.Nat.{ℕ};
-ghost use lib.ListN.{length};
 ghost use Rattle.calls.specs.Call.{spaces, hold};
-ghost use Rattle.calls.specs.Model.{counting, writing, to, beyond, putIn};
-ghost use Rattle.calls.specs.Model.{put as putText, wrote as wroteText};
+ghost use Rattle.calls.specs.Model.{counting, writing, to, beyond};
+ghost use Rattle.calls.specs.Model.{put as putText};
 ghost use Rattle.error.specs.Answer.{numberOf};
-ghost use Rattle.str_writer.specs.Write.{outcome};
-ghost use Rattle.writer_backend.specs.Output.{modeOf, isCounting, withNumber, outputOf, putOut};
+ghost use Rattle.writer_backend.specs.Output.{modeOf, isCounting, withNumber, added, outputOf, putOut};
 ghost use Rattle.writer_backend.specs.Pieces.{tryOn};
 ghost use Rattle.writer_backend.specs.Words.{textOfWord};
 use crate::words::Word;
@@ -94,9 +91,9 @@ pub fn answered(m: WriterBackend, answer: Answer) -> Wrote
     }
 }
 
-// The length of a piece added to the total, or 6 where it would pass 2^64 - 1.
+// The length of a piece added to the total, or 6 and the total kept where it would pass 2^64 - 1.
 pub fn add_len(m: WriterBackend, len: usize) -> Wrote
-    ensures { λ r. ⌜ ((b t : List ℕ) → isCounting (modeOf m) ≡ true → len ≡ length t → putOut r b ≡ putIn (modeOf m) b t (λ n. [])) ⌝ }
+    ensures { λ r. ⌜ ((b : List ℕ) → putOut r b ≡ added (modeOf m) b len) ⌝ }
 {
     let total = m.number;
     if len <= usize::MAX - total {
@@ -107,7 +104,7 @@ pub fn add_len(m: WriterBackend, len: usize) -> Wrote
 
 // What a single write answered, as that of a piece.
 pub fn from_written(m: WriterBackend, w: Written) -> Wrote
-    ensures { λ r. ⌜ ((b : List ℕ) → isCounting (modeOf m) ≡ false → putOut r b ≡ wroteText (outcome w b)) ⌝ }
+    ensures { λ r. ⌜ ((b : List ℕ) → putOut r b ≡ to (withNumber (modeOf m) (w .at)) b (numberOf (w .answer))) ⌝ }
 {
     let answer = w.answer;
     answered(m.moved_to(w.at), answer)
@@ -143,6 +140,7 @@ pub fn put_spaces(m: WriterBackend, buf: &mut [u8], k: usize) -> Wrote
     from_written(m, w)
 }
 
+// A word as a piece.
 pub fn put_word(m: WriterBackend, buf: &mut [u8], w: Word) -> Wrote
     ensures { λ r. ⌜ putOut r (now (buf .exit)) ≡ putText (outputOf m (now (buf .entry))) (textOfWord w) ⌝ }
 {
@@ -174,6 +172,7 @@ pub fn try_put(t: Wrote, buf: &mut [u8], s: &[u8]) -> Wrote
     }
 }
 
+// A word tried after others.
 pub fn try_word(t: Wrote, buf: &mut [u8], s: Word) -> Wrote
     ensures { λ r. ⌜ putOut r (now (buf .exit)) ≡ tryOn (putOut t (now (buf .entry))) (textOfWord s) ⌝ }
 {
@@ -186,6 +185,7 @@ pub fn try_word(t: Wrote, buf: &mut [u8], s: Word) -> Wrote
     }
 }
 
+// n spaces tried after others.
 pub fn try_spaces(t: Wrote, buf: &mut [u8], n: usize) -> Wrote
     ensures { λ r. ⌜ putOut r (now (buf .exit)) ≡ tryOn (putOut t (now (buf .entry))) (spaces n) ⌝ }
 {

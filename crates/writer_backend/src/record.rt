@@ -69,6 +69,7 @@ pub fn put_name(m: WriterBackend, buf: &mut [u8], k: Kind, name: &[u8]) -> Wrote
     }
 }
 
+// Whether the name of a builder is UTF-8; a list and a set have none.
 pub fn is_name(k: Kind, name: &[u8]) -> bool
     ensures { λ r. ⌜ r ≡ wellFormed (nameOf k (now (name .entry))) ⌝ }
 {
@@ -105,6 +106,7 @@ fn place_kind_suits(p: PlaceKind, k: Kind) -> bool
     }
 }
 
+// Whether the name of a field is UTF-8; only a field of a struct has one.
 pub fn is_label(p: PlaceKind, name: &[u8]) -> bool
     ensures { λ r. ⌜ r ≡ wellFormed (placeName (placeOf p (now (name .entry)))) ⌝ }
 {

@@ -13,52 +13,55 @@ pub struct Word {
     pub len: usize,
 }
 
+// The closing bracket alone, as alternate form has it.
 pub fn bracket_of(k: Kind) -> Word
     ensures { λ r. ⌜ textOfWord r ≡ bracket k ⌝ }
 {
     match k {
         Kind::Struct => Word {
-            bytes: [125, 0, 0],
+            bytes: [b'}', 0, 0],
             len: 1,
         },
         Kind::Tuple => Word {
-            bytes: [41, 0, 0],
+            bytes: [b')', 0, 0],
             len: 1,
         },
         Kind::List => Word {
-            bytes: [93, 0, 0],
+            bytes: [b']', 0, 0],
             len: 1,
         },
         Kind::Set => Word {
-            bytes: [125, 0, 0],
+            bytes: [b'}', 0, 0],
             len: 1,
         },
     }
 }
 
+// The closing of a builder with a field, in plain form.
 pub fn plain_close(k: Kind) -> Word
     ensures { λ r. ⌜ textOfWord r ≡ plainClose k ⌝ }
 {
     match k {
         Kind::Struct => Word {
-            bytes: [32, 125, 0],
+            bytes: [b' ', b'}', 0],
             len: 2,
         },
         Kind::Tuple => Word {
-            bytes: [41, 0, 0],
+            bytes: [b')', 0, 0],
             len: 1,
         },
         Kind::List => Word {
-            bytes: [93, 0, 0],
+            bytes: [b']', 0, 0],
             len: 1,
         },
         Kind::Set => Word {
-            bytes: [125, 0, 0],
+            bytes: [b'}', 0, 0],
             len: 1,
         },
     }
 }
 
+// The closing of a builder without a field.
 pub fn empty_close(k: Kind) -> Word
     ensures { λ r. ⌜ textOfWord r ≡ emptyClose k ⌝ }
 {
@@ -72,11 +75,11 @@ pub fn empty_close(k: Kind) -> Word
             len: 0,
         },
         Kind::List => Word {
-            bytes: [91, 93, 0],
+            bytes: [b'[', b']', 0],
             len: 2,
         },
         Kind::Set => Word {
-            bytes: [123, 125, 0],
+            bytes: [b'{', b'}', 0],
             len: 2,
         },
     }
@@ -88,12 +91,12 @@ fn later_separator(alt: bool) -> Word
 {
     if alt {
         return Word {
-            bytes: [44, 10, 0],
+            bytes: [b',', b'\n', 0],
             len: 2,
         };
     }
     Word {
-        bytes: [44, 32, 0],
+        bytes: [b',', b' ', 0],
         len: 2,
     }
 }
@@ -104,19 +107,19 @@ fn plain_first(k: Kind) -> Word
 {
     match k {
         Kind::Struct => Word {
-            bytes: [32, 123, 32],
+            bytes: [b' ', b'{', b' '],
             len: 3,
         },
         Kind::Tuple => Word {
-            bytes: [40, 0, 0],
+            bytes: [b'(', 0, 0],
             len: 1,
         },
         Kind::List => Word {
-            bytes: [91, 0, 0],
+            bytes: [b'[', 0, 0],
             len: 1,
         },
         Kind::Set => Word {
-            bytes: [123, 0, 0],
+            bytes: [b'{', 0, 0],
             len: 1,
         },
     }
@@ -128,19 +131,19 @@ fn alternate_first(k: Kind) -> Word
 {
     match k {
         Kind::Struct => Word {
-            bytes: [32, 123, 10],
+            bytes: [b' ', b'{', b'\n'],
             len: 3,
         },
         Kind::Tuple => Word {
-            bytes: [40, 10, 0],
+            bytes: [b'(', b'\n', 0],
             len: 2,
         },
         Kind::List => Word {
-            bytes: [91, 10, 0],
+            bytes: [b'[', b'\n', 0],
             len: 2,
         },
         Kind::Set => Word {
-            bytes: [123, 10, 0],
+            bytes: [b'{', b'\n', 0],
             len: 2,
         },
     }

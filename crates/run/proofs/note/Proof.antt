@@ -1,4 +1,3 @@
-use borrow.Author.Needs.{needs}
 use Rattle.run.proofs.Playing.{note-none, note-first, note-later}
 use Rattle.run.proofs.note.Statement.{statement}
 use Rattle.run.proofs.note.Tie as tie

@@ -1,4 +1,3 @@
-use borrow.Author.Needs.{needs}
 use Rattle.run.proofs.Playing.{place-last, place-met}
 use Rattle.run.proofs.place_of.Statement.{statement}
 use Rattle.run.proofs.place_of.Tie as tie

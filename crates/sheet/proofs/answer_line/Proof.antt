@@ -1,10 +1,8 @@
 use mathlib.Core.Path.{ap, sym, _∙_}
-use lib.ListN.{take}
 use borrow.Author.Tests.{not-true, not-false}
 use borrow.Author.Needs.{needs}
 use Rattle.sheet_line.specs.Line.{callOfLine}
 use Rattle.sheet_line.specs.Reading.{Reading}
-use Rattle.formatter.specs.Calls.{callOf}
 use Rattle.sheet.specs.SheetView.{sheetOf, isSome, steppedOf}
 use Rattle.sheet.proofs.Stepping.{no-call, a-call, answer-bad, answer-call, short-bad, short-call}
 use Rattle.sheet.proofs.answer_line.Statement.{statement}

@@ -1,7 +1,7 @@
 use mathlib.Core.Path.{refl}
 use mathlib.Core.Option.{none}
 use borrow.Author.Needs.{needs}
-use Rattle.sheet_line.specs.Line.{threeFields, numCall, typeOf}
+use Rattle.sheet_line.specs.Line.{threeFields, numCall}
 use Rattle.sheet_line.proofs.Readings.{bare, num-text}
 use Rattle.sheet_line.proofs.three_fields.Statement.{statement}
 use Rattle.sheet_line.proofs.three_fields.Tie as tie

@@ -1,4 +1,3 @@
-use mathlib.Core.List.{[]}
 use mathlib.Core.Path.{refl}
 use mathlib.Core.Option.{none}
 use borrow.Author.Needs.{needs}

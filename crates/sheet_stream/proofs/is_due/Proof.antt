@@ -1,4 +1,3 @@
-use borrow.Author.Needs.{needs}
 use borrow.Author.Tests.{not-true, not-false}
 use Rattle.sheet_stream.proofs.is_due.Statement.{statement}
 use Rattle.sheet_stream.proofs.is_due.Tie as tie

@@ -9,10 +9,10 @@ use Rattle.table_text.proofs.count.Tie as tie
 
 returns : tie.Need-returns
 returns c =
-    let a = c .before .before .before .before .args in
-    let h = c .if1 .taken in
+    let a = c .before .before .before .before .before .args in
+    let h = c .before .if1 .taken in
     let t = a .text .now in
-    (count-refused (a .flags) h (a .calls .now) t, (no-answers (a .flags) h (a .calls .now) t (counting 0) [] (a .answers .now), λ k. absurd (omega arith)))
+    rw (c .unplayed .ensures) (count-refused (a .flags) h (a .calls .now) t, (no-answers (a .flags) h (a .calls .now) t (counting 0) [] (a .answers .now), λ k. absurd (omega arith)))
 
 returns-2 : tie.Need-returns-2
 returns-2 c =
@@ -26,4 +26,4 @@ returns-2 c =
     (e .0 ∙ played-by (a .flags) h (counting 0) [] (a .calls .now) (a .text .now), (rw (← answers-by (a .flags) h (counting 0) [] (a .calls .now) (a .text .now)) (e .1 .0), λ k. e .1 .1))
 
 pub count-spec : {M : Type 1} → statement M
-count-spec = tie.close (tie.spec returns (λ c κs. search needs) (λ c κs. search needs) (λ c. search needs) returns-2)
+count-spec = tie.close (tie.spec (λ c κs. search needs) returns (λ c κs. search needs) (λ c κs. search needs) (λ c. search needs) returns-2)

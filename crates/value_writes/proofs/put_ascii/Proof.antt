@@ -4,7 +4,7 @@ use Rattle.str_writer.specs.Value.{ascii, display, debug, textOf, leaves}
 use Rattle.str_writer.specs.Write.{put}
 use Rattle.str_writer.proofs.Values.{ascii-uncut}
 use Rattle.writer_backend.specs.Output.{modeOf}
-use Rattle.writer_backend.proofs.Output.{counts, writes}
+use Rattle.writer_backend.proofs.Output.{counts, writes, wrote-at}
 use Rattle.value_writes.specs.Values.{formOf}
 use Rattle.value_writes.proofs.ValueLaws.{judged-uncut, value-refused, value-counted, value-placed}
 use Rattle.value_writes.proofs.put_ascii.Statement.{statement}
@@ -40,7 +40,8 @@ returns-3 c f h =
     let at-fault = at-is-done .before in
     let a = at-fault .before .before .before .args in
     let x = at-fault .ascii-fault in
-    rw (at-enum-told .enum-told .given .1) (c .from-written .ensures _ (sym (at-if2 .before .is-counting .ensures) ∙ at-if2 .if2 .left)
+    rw (at-enum-told .enum-told .given .1) (c .from-written .ensures _
+    ∙ wrote-at (a .m) (at-if2 .before .is-counting .ensures) (at-if2 .if2 .left) (at-put .put-part .result) _
     ∙ value-placed (a .m) (a .buf .now) f (ascii display (a .s .now) (a .range)) h (x .result) (judged-uncut (modeOf (a .m)) (ascii display (a .s .now) (a .range)) (x .result) (x .ensures display (a .range)) (ascii-uncut display (a .s .now) (a .range))) (at-is-done .is-done .ensures) (at-if1 .if1 .left) (writes (a .m) (at-if2 .before .is-counting .ensures) (at-if2 .if2 .left)) (at-put .put-part .ensures))
 
 returns-4 : tie.Need-returns-4
@@ -54,7 +55,8 @@ returns-4 c f h =
     let at-fault = at-is-done .before in
     let a = at-fault .before .before .before .args in
     let x = at-fault .ascii-fault in
-    rw (at-enum-told2 .enum-told2 .given .1) (c .from-written2 .ensures _ (sym (at-if2 .before .is-counting .ensures) ∙ at-if2 .if2 .left)
+    rw (at-enum-told2 .enum-told2 .given .1) (c .from-written2 .ensures _
+    ∙ wrote-at (a .m) (at-if2 .before .is-counting .ensures) (at-if2 .if2 .left) (at-put .put-quoted-part .result) _
     ∙ value-placed (a .m) (a .buf .now) f (ascii debug (a .s .now) (a .range)) h (x .result) (judged-uncut (modeOf (a .m)) (ascii debug (a .s .now) (a .range)) (x .result) (x .ensures debug (a .range)) (ascii-uncut debug (a .s .now) (a .range))) (at-is-done .is-done .ensures) (at-if1 .if1 .left) (writes (a .m) (at-if2 .before .is-counting .ensures) (at-if2 .if2 .left)) (at-put .put-quoted-part .ensures))
 
 pub put-ascii-spec : {M : Type 1} → statement M

@@ -1,10 +1,10 @@
 use borrow.Author.Needs.{needs}
-use mathlib.Core.Path.{sym, _∙_}
+use mathlib.Core.Path.{_∙_}
 use Rattle.str_writer.specs.Value.{char, display, debug, textOf, leaves}
 use Rattle.str_writer.specs.Write.{put}
 use Rattle.str_writer.proofs.Values.{char-uncut}
 use Rattle.writer_backend.specs.Output.{modeOf}
-use Rattle.writer_backend.proofs.Output.{counts, writes}
+use Rattle.writer_backend.proofs.Output.{counts, writes, adds, wrote-at}
 use Rattle.value_writes.specs.Values.{formOf}
 use Rattle.value_writes.proofs.ValueLaws.{judged-uncut, value-refused, value-counted, value-placed}
 use Rattle.value_writes.proofs.put_char.Statement.{statement}
@@ -27,7 +27,7 @@ returns-2 c f h =
     let at-fault = at-is-done .before in
     let a = at-fault .before .before .args in
     let x = at-fault .char-fault in
-    value-counted (a .m) (a .buf .now) f (char (formOf (a .form)) (a .c)) h (x .result) (judged-uncut (modeOf (a .m)) (char (formOf (a .form)) (a .c)) (x .result) (x .ensures (formOf (a .form))) (char-uncut (formOf (a .form)) (a .c))) (at-is-done .is-done .ensures) (at-if1 .if1 .left) (counts (a .m) (at-if2 .before .is-counting .ensures) (at-if2 .if2 .taken)) (c .add-len .ensures (a .buf .now) (textOf f (char (formOf (a .form)) (a .c))) (sym (at-if2 .before .is-counting .ensures) ∙ at-if2 .if2 .taken) (c .before .char-len .ensures f))
+    value-counted (a .m) (a .buf .now) f (char (formOf (a .form)) (a .c)) h (x .result) (judged-uncut (modeOf (a .m)) (char (formOf (a .form)) (a .c)) (x .result) (x .ensures (formOf (a .form))) (char-uncut (formOf (a .form)) (a .c))) (at-is-done .is-done .ensures) (at-if1 .if1 .left) (counts (a .m) (at-if2 .before .is-counting .ensures) (at-if2 .if2 .taken)) (c .add-len .ensures (a .buf .now) ∙ adds (a .m) (at-if2 .before .is-counting .ensures) (at-if2 .if2 .taken) (a .buf .now) (textOf f (char (formOf (a .form)) (a .c))) (c .before .char-len .ensures f))
 
 returns-3 : tie.Need-returns-3
 unfolding textOf leaves put
@@ -40,7 +40,8 @@ returns-3 c f h =
     let at-fault = at-is-done .before in
     let a = at-fault .before .before .args in
     let x = at-fault .char-fault in
-    rw (at-enum-told .enum-told .given .1) (c .from-written .ensures _ (sym (at-if2 .before .is-counting .ensures) ∙ at-if2 .if2 .left)
+    rw (at-enum-told .enum-told .given .1) (c .from-written .ensures _
+    ∙ wrote-at (a .m) (at-if2 .before .is-counting .ensures) (at-if2 .if2 .left) (at-put .put-char .result) _
     ∙ value-placed (a .m) (a .buf .now) f (char display (a .c)) h (x .result) (judged-uncut (modeOf (a .m)) (char display (a .c)) (x .result) (x .ensures display) (char-uncut display (a .c))) (at-is-done .is-done .ensures) (at-if1 .if1 .left) (writes (a .m) (at-if2 .before .is-counting .ensures) (at-if2 .if2 .left)) (at-put .put-char .ensures))
 
 returns-4 : tie.Need-returns-4
@@ -54,7 +55,8 @@ returns-4 c f h =
     let at-fault = at-is-done .before in
     let a = at-fault .before .before .args in
     let x = at-fault .char-fault in
-    rw (at-enum-told2 .enum-told2 .given .1) (c .from-written2 .ensures _ (sym (at-if2 .before .is-counting .ensures) ∙ at-if2 .if2 .left)
+    rw (at-enum-told2 .enum-told2 .given .1) (c .from-written2 .ensures _
+    ∙ wrote-at (a .m) (at-if2 .before .is-counting .ensures) (at-if2 .if2 .left) (at-put .put-char-debug .result) _
     ∙ value-placed (a .m) (a .buf .now) f (char debug (a .c)) h (x .result) (judged-uncut (modeOf (a .m)) (char debug (a .c)) (x .result) (x .ensures debug) (char-uncut debug (a .c))) (at-is-done .is-done .ensures) (at-if1 .if1 .left) (writes (a .m) (at-if2 .before .is-counting .ensures) (at-if2 .if2 .left)) (at-put .put-char-debug .ensures))
 
 pub put-char-spec : {M : Type 1} → statement M

@@ -6,7 +6,7 @@ use Rattle.error.specs.declared.Answer.the-variants.{Done}
 use Rattle.formatting.specs.Flags.{defaultFlags}
 use Rattle.str_writer.specs.Value.{repeated, textOf, inputFault, cutFault}
 use Rattle.writer_backend.specs.Output.{modeOf}
-use Rattle.writer_backend.proofs.Output.{counts, writes}
+use Rattle.writer_backend.proofs.Output.{counts, writes, adds, wrote-at}
 use Rattle.value_writes.proofs.ValueLaws.{judged-uncut, value-counted, value-placed, write-unmet}
 use Rattle.value_writes.proofs.put_repeated.Statement.{statement}
 use Rattle.value_writes.proofs.put_repeated.Tie as tie
@@ -16,7 +16,7 @@ unfolding textOf inputFault cutFault
 returns c f h =
     let at-is-counting = c .before .before in
     let a = at-is-counting .before .before .args in
-    value-counted (a .m) (a .buf .now) f (repeated (a .c) (a .n)) h Done (judged-uncut (modeOf (a .m)) (repeated (a .c) (a .n)) Done refl refl) refl refl (counts (a .m) (at-is-counting .is-counting .ensures) (c .before .if1 .taken)) (c .add-len .ensures (a .buf .now) (replicate (a .n) (a .c % 128)) (sym (at-is-counting .is-counting .ensures) ∙ c .before .if1 .taken) (sym (length-replicate (a .n) (a .c % 128))))
+    value-counted (a .m) (a .buf .now) f (repeated (a .c) (a .n)) h Done (judged-uncut (modeOf (a .m)) (repeated (a .c) (a .n)) Done refl refl) refl refl (counts (a .m) (at-is-counting .is-counting .ensures) (c .before .if1 .taken)) (c .add-len .ensures (a .buf .now) ∙ adds (a .m) (at-is-counting .is-counting .ensures) (c .before .if1 .taken) (a .buf .now) (replicate (a .n) (a .c % 128)) (sym (length-replicate (a .n) (a .c % 128))))
 
 returns-2 : tie.Need-returns-2
 unfolding textOf inputFault cutFault
@@ -25,7 +25,8 @@ returns-2 c f h =
     let at-if1 = at-write .before .before in
     let at-is-counting = at-if1 .before in
     let a = at-is-counting .before .before .args in
-    c .from-written .ensures _ (sym (at-is-counting .is-counting .ensures) ∙ at-if1 .if1 .left)
+    c .from-written .ensures _
+    ∙ wrote-at (a .m) (at-is-counting .is-counting .ensures) (at-if1 .if1 .left) (at-write .write-ascii-repeated .result) _
     ∙ value-placed (a .m) (a .buf .now) f (repeated (a .c) (a .n)) h Done (judged-uncut (modeOf (a .m)) (repeated (a .c) (a .n)) Done refl refl) refl refl (writes (a .m) (at-is-counting .is-counting .ensures) (at-if1 .if1 .left)) (at-write .write-ascii-repeated .ensures ∙ write-unmet defaultFlags (a .buf .now) (a .m .number) (repeated (a .c) (a .n)) refl refl)
 
 pub put-repeated-spec : {M : Type 1} → statement M

@@ -2,7 +2,7 @@ use borrow.Author.Needs.{needs}
 use mathlib.Core.Path.{sym, _∙_}
 use Rattle.str_writer.specs.Value.{str, display, debug, textOf, leaves}
 use Rattle.str_writer.specs.Write.{put}
-use Rattle.writer_backend.proofs.Output.{counts, writes}
+use Rattle.writer_backend.proofs.Output.{counts, writes, wrote-at}
 use Rattle.value_writes.specs.Values.{formOf}
 use Rattle.value_writes.proofs.ValueLaws.{value-refused, value-counted, value-placed}
 use Rattle.value_writes.proofs.put_str.Statement.{statement}
@@ -38,7 +38,8 @@ returns-3 c f h =
     let at-fault = at-is-done .before in
     let a = at-fault .before .before .before .args in
     let x = at-fault .judge-str in
-    rw (at-enum-told .enum-told .given .1) (c .from-written .ensures _ (sym (at-if2 .before .is-counting .ensures) ∙ at-if2 .if2 .left)
+    rw (at-enum-told .enum-told .given .1) (c .from-written .ensures _
+    ∙ wrote-at (a .m) (at-if2 .before .is-counting .ensures) (at-if2 .if2 .left) (at-put .put-part .result) _
     ∙ value-placed (a .m) (a .buf .now) f (str display (a .s .now) (a .range)) h (x .result) (x .ensures display) (at-is-done .is-done .ensures) (at-if1 .if1 .left) (writes (a .m) (at-if2 .before .is-counting .ensures) (at-if2 .if2 .left)) (at-put .put-part .ensures))
 
 returns-4 : tie.Need-returns-4
@@ -52,7 +53,8 @@ returns-4 c f h =
     let at-fault = at-is-done .before in
     let a = at-fault .before .before .before .args in
     let x = at-fault .judge-str in
-    rw (at-enum-told2 .enum-told2 .given .1) (c .from-written2 .ensures _ (sym (at-if2 .before .is-counting .ensures) ∙ at-if2 .if2 .left)
+    rw (at-enum-told2 .enum-told2 .given .1) (c .from-written2 .ensures _
+    ∙ wrote-at (a .m) (at-if2 .before .is-counting .ensures) (at-if2 .if2 .left) (at-put .put-quoted-part .result) _
     ∙ value-placed (a .m) (a .buf .now) f (str debug (a .s .now) (a .range)) h (x .result) (x .ensures debug) (at-is-done .is-done .ensures) (at-if1 .if1 .left) (writes (a .m) (at-if2 .before .is-counting .ensures) (at-if2 .if2 .left)) (at-put .put-quoted-part .ensures))
 
 pub put-str-spec : {M : Type 1} → statement M

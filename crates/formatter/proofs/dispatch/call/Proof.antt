@@ -22,12 +22,14 @@ returns-3 c =
 
 returns-4 : tie.Need-returns-4
 returns-4 c =
-    let at-op3 = c .before .before .before .before in
+    let at-before = c .before .before .before in
+    let at-op3 = at-before .before in
     rw (at-op3 .op3 .given .1) (c .sub-at .ensures)
 
 returns-5 : tie.Need-returns-5
 returns-5 c =
-    let at-enum-told2 = c .before .before .before in
+    let at-before = c .before .before in
+    let at-enum-told2 = at-before .before in
     rw (at-enum-told2 .enum-told2 .given .1) (c .endsub-at .ensures)
 
 returns-6 : tie.Need-returns-6

@@ -1,75 +1,61 @@
 use borrow.Author.Needs.{needs}
 use mathlib.Core.Path.{refl}
-use native.Mathlib.Omega.{arith}
 use Rattle.calls.specs.Call.{sub}
 use Rattle.formatter.specs.View.{marginOf}
-use Rattle.formatter.proofs.Steps.{past-end, refuses, sub-room, sub-done}
+use Rattle.formatter.proofs.Steps.{begun-past, begun-top, refuses, sub-room, sub-done}
 use Rattle.formatter.proofs.dispatch.sub_at.Statement.{statement}
 use Rattle.formatter.proofs.dispatch.sub_at.Tie as tie
 
 returns : tie.Need-returns
 returns c =
-    let at-if1 = c .before in
-    let at-past = at-if1 .before in
-    let at-args = at-past .before .before .before in
+    let at-begin = c .before .before .before in
+    let at-args = at-begin .before .before .before in
     let a = at-args .args in
-    let o = at-past .past in
-    rw (c .refused .ensures) (past-end (a .h) (a .stack .now) (a .buf .now) (o .result) (o .ensures) (sub (a .f)) (at-if1 .if1 .taken))
+    let i = at-begin .begin in
+    rw (c .refused .ensures) (begun-past (a .h) (a .stack .now) (a .buf .now) (i .result) (i .ensures .0) (sub (a .f)) (c .before .if1 .taken))
 
 returns-2 : tie.Need-returns-2
 returns-2 c =
-    let at-if2 = c .before in
-    let at-judge-sub = at-if2 .before in
-    let at-innermost = at-judge-sub .before in
-    let at-open-entries = at-innermost .before .before .before in
-    let at-if1 = at-open-entries .before in
-    let at-past = at-if1 .before in
-    let at-args = at-past .before .before .before in
+    let at-judge-sub = c .before .before in
+    let at-if1 = at-judge-sub .before in
+    let at-begin = at-if1 .before .before in
+    let at-args = at-begin .before .before .before in
     let a = at-args .args in
-    let o = at-past .past in
-    let d = at-open-entries .open-entries in
-    let t = at-innermost .innermost in
+    let i = at-begin .begin in
     let f = at-judge-sub .judge-sub in
-    rw (c .refused2 .ensures) (refuses (a .h) (a .stack .now) (a .buf .now) (o .result) (o .ensures) (at-if1 .if1 .left) (d .result) (d .ensures .1 .0) (d .ensures .1 .1) (t .result) (t .ensures) (marginOf (a .h .margin)) refl (sub (a .f)) refl (f .result) (f .ensures (marginOf (a .h .margin)) (a .f)) (at-if2 .if2 .taken))
+    rw (c .refused2 .ensures) (refuses (a .h) (a .stack .now) (a .buf .now) (i .result) (i .ensures .0) (at-if1 .if1 .left) (marginOf (a .h .margin)) refl (sub (a .f)) refl (f .result) (f .ensures (marginOf (a .h .margin)) (a .f)) (c .before .if2 .taken))
 
 push-requires : tie.Need-push-requires
 push-requires c κs =
     let at-if2 = c .before .before .before .before in
     let at-judge-sub = at-if2 .before in
-    let at-innermost = at-judge-sub .before in
-    let at-open-entries = at-innermost .before .before .before in
-    let at-args = at-open-entries .before .before .before .before .before in
+    let at-begin = at-judge-sub .before .before .before in
+    let at-args = at-begin .before .before .before in
     let a = at-args .args in
-    let d = at-open-entries .open-entries in
-    let t = at-innermost .innermost in
+    let i = at-begin .begin in
     let f = at-judge-sub .judge-sub in
-    sub-room (a .stack .now) (t .result) (d .result) 0 (f .result) (t .ensures) (at-if2 .if2 .left) (a .f) (f .ensures 0 (a .f))
+    sub-room (a .stack .now) (i .result .top) (i .result .depth) 0 (f .result) (begun-top (a .h) (a .stack .now) (a .buf .now) (i .result) (i .ensures .0)) (at-if2 .if2 .left) (a .f) (f .ensures 0 (a .f))
 
 returns-3 : tie.Need-returns-3
 returns-3 c =
-    let at-push = c .before in
+    let at-push = c .before .before in
     let at-pack-outer = at-push .before in
     let at-margin = at-pack-outer .before in
     let at-flags = at-margin .before in
     let at-if2 = at-flags .before .before in
     let at-judge-sub = at-if2 .before in
-    let at-innermost = at-judge-sub .before in
-    let at-innermost-arg2 = at-innermost .before in
-    let at-open-entries = at-innermost-arg2 .before .before in
-    let at-if1 = at-open-entries .before in
-    let at-past = at-if1 .before in
-    let at-args = at-past .before .before .before in
+    let at-if1 = at-judge-sub .before in
+    let at-begin = at-if1 .before .before in
+    let at-args = at-begin .before .before .before in
     let a = at-args .args in
-    let o = at-past .past in
-    let d = at-open-entries .open-entries in
-    let t = at-innermost .innermost in
+    let i = at-begin .begin in
     let f = at-judge-sub .judge-sub in
     let m = at-margin .margin in
     let l = at-flags .flags in
     let v = at-pack-outer .pack-outer in
     let p = at-push .push in
     let x = c .flags-number in
-    rw (p .ensures .0, p .ensures .1) (sub-done (a .h) (a .stack .now) (a .buf .now) (o .result) (o .ensures) (at-if1 .if1 .left) (d .result) (d .ensures .1 .0) (d .ensures .1 .1) (t .result) (t .ensures) (m .result) (m .ensures) (f .result) (at-if2 .if2 .left) (a .f) (f .ensures (m .result) (a .f)) (at-innermost-arg2 .innermost-arg2 .given .0) (v .result) (rw (l .ensures) at (v .ensures)) (x .result) (x .ensures .1))
+    rw (p .ensures .0, p .ensures .1) (sub-done (a .h) (a .stack .now) (a .buf .now) (i .result) (i .ensures .0) (at-if1 .if1 .left) (m .result) (m .ensures) (f .result) (at-if2 .if2 .left) (a .f) (f .ensures (m .result) (a .f)) (i .ensures .1) (v .result) (rw (l .ensures) at (v .ensures)) (x .result) (x .ensures .1))
 
 pub sub-at-spec : {M : Type 1} → statement M
-sub-at-spec = tie.close (tie.spec (λ c κs. search needs) (λ c κs. search needs) returns (λ c κs. search needs) (λ c κs. search needs) (λ c κs. search needs) (λ c κs. search needs) returns-2 (λ c κs. search needs) (λ c κs. search needs) (λ c κs. search needs) push-requires (λ c κs. search needs) returns-3)
+sub-at-spec = tie.close (tie.spec (λ c κs. search needs) (λ c κs. search needs) returns (λ c κs. search needs) (λ c κs. search needs) returns-2 (λ c κs. search needs) (λ c κs. search needs) (λ c κs. search needs) push-requires (λ c κs. search needs) returns-3)

@@ -1,7 +1,6 @@
-use mathlib.Core.Path.{refl}
 use native.Mathlib.Omega.{arith}
 use borrow.Author.Needs.{needs}
-use Rattle.fields.specs.Fields.{bytes}
+use Rattle.formatting.specs.Bytes.{bytes}
 use Rattle.fields.specs.Decimal.{cell}
 use Rattle.fields.proofs.Cells.{cell-short}
 use Rattle.sheet.specs.Sheet.{badText}

@@ -1,6 +1,6 @@
 use native.Mathlib.Omega.{arith}
 use borrow.Author.Needs.{needs}
-use Rattle.fields.specs.Fields.{bytes}
+use Rattle.formatting.specs.Bytes.{bytes}
 use Rattle.fields.specs.Decimal.{cell}
 use Rattle.fields.proofs.Cells.{cell-short}
 use Rattle.sheet.proofs.Printing.{At, next, laid}

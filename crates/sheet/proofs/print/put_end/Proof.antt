@@ -1,11 +1,6 @@
-use mathlib.Core.Path.{_∙_}
-use mathlib.Core.List.{_++_}
 use native.Mathlib.Omega.{arith}
 use borrow.Author.Needs.{needs}
-use Rattle.fields.specs.Fields.{bytes}
-use Rattle.fields.specs.Decimal.{cell}
 use Rattle.str_writer.proofs.Outcomes.{put-bad, put-short}
-use Rattle.sheet.specs.Sheet.{endLine}
 use Rattle.sheet.proofs.Printing.{end-length, end-short, end-put}
 use Rattle.sheet.proofs.print.put_end.Statement.{statement}
 use Rattle.sheet.proofs.print.put_end.Tie as tie

@@ -1,6 +1,5 @@
-use mathlib.Core.Path.{refl, sym, ap, _∙_}
-use native.Mathlib.Omega.{arith}
-use lib.ListN.{length, replicate, length-replicate}
+use mathlib.Core.Path.{sym, ap, _∙_}
+use lib.ListN.{replicate, length-replicate}
 use Prim.Native.Nat.{ℕ, _≤_}
 use borrow.Author.Tests.{not-true, not-false}
 use borrow.Author.Needs.{needs}

@@ -1,6 +1,5 @@
-use mathlib.Core.Path.{_≡_}
 use native.Mathlib.Omega.{arith}
-use lib.ListN.{length, length-set}
+use lib.ListN.{length-set}
 use borrow.Author.Needs.{needs}
 use Rattle.str_writer.proofs.Splice.{few-none, few-one, few-two, few-three, few-four}
 use Rattle.str_writer.proofs.piece.copy_few.Statement.{statement}

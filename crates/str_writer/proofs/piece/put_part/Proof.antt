@@ -1,4 +1,3 @@
-use mathlib.Core.Path.{_∙_}
 use borrow.Author.Needs.{needs}
 use Rattle.str_writer.proofs.Values.{clamped-order, clamped-end, clamped-part}
 use Rattle.str_writer.proofs.piece.put_part.Statement.{statement}

@@ -1,7 +1,7 @@
 use borrow.Author.Needs.{needs}
-use mathlib.Core.Path.{refl, sym, ap, _∙_}
+use mathlib.Core.Path.{refl, ap, _∙_}
 use Rattle.calls.specs.Model.{wrote}
-use Rattle.writer_backend.proofs.Output.{writes, put-past, put-writes}
+use Rattle.writer_backend.proofs.Output.{adds, wrote-at, writes, put-past, put-writes}
 use Rattle.writer_backend.proofs.pieces.put.Statement.{statement}
 use Rattle.writer_backend.proofs.pieces.put.Tie as tie
 
@@ -9,7 +9,7 @@ returns : tie.Need-returns
 returns c =
     let at-is-counting = c .before .before in
     let a = at-is-counting .before .before .before .args in
-    c .add-len .ensures (a .buf .now) (a .s .now) (sym (at-is-counting .is-counting .ensures) ∙ c .before .if1 .taken) refl
+    c .add-len .ensures (a .buf .now) ∙ adds (a .m) (at-is-counting .is-counting .ensures) (c .before .if1 .taken) (a .buf .now) (a .s .now) refl
 
 returns-2 : tie.Need-returns-2
 returns-2 c =
@@ -26,7 +26,8 @@ returns-3 c =
     let at-if1 = at-if2 .before in
     let at-is-counting = at-if1 .before in
     let a = at-is-counting .before .before .before .args in
-    c .from-written .ensures _ (sym (at-is-counting .is-counting .ensures) ∙ at-if1 .if1 .left)
+    c .from-written .ensures _
+    ∙ wrote-at (a .m) (at-is-counting .is-counting .ensures) (at-if1 .if1 .left) (at-put .put .result) _
     ∙ ap wrote (at-put .put .ensures)
     ∙ put-writes (a .m) (a .buf .now) (writes (a .m) (at-is-counting .is-counting .ensures) (at-if1 .if1 .left)) (a .s .now) (at-if2 .if2 .left)
 

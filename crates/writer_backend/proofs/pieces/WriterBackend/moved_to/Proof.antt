@@ -1,4 +1,3 @@
-use borrow.Author.Needs.{needs}
 use Prim.Native.Nat.{_%_}
 use Rattle.writer_backend.proofs.Output.{as-at}
 use Rattle.writer_backend.proofs.pieces.WriterBackend.moved_to.Statement.{statement}
