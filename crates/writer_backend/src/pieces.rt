@@ -159,17 +159,23 @@ fn first(held: u8, answer: u8) -> u8
     held
 }
 
+// What a piece leaves that is tried after others, of which held is the first refusal.
+fn after(held: u8, w: Wrote) -> Wrote
+    ensures { λ r. ⌜ ((b : List ℕ) → putOut r b ≡ record { answer = hold held (w .answer); output = outputOf (w .mode) b }) ⌝ }
+{
+    let mode = w.mode;
+    Wrote {
+        answer: first(held, w.answer),
+        mode,
+    }
+}
+
 // A piece tried after others: t is what they left, with the first refusal.
 pub fn try_put(t: Wrote, buf: &mut [u8], s: &[u8]) -> Wrote
     ensures { λ r. ⌜ putOut r (now (buf .exit)) ≡ tryOn (putOut t (now (buf .entry))) (now (s .entry)) ⌝ }
 {
     let m = t.mode;
-    let w = put(m, buf, s);
-    let mode = w.mode;
-    Wrote {
-        answer: first(t.answer, w.answer),
-        mode,
-    }
+    after(t.answer, put(m, buf, s))
 }
 
 // A word tried after others.
@@ -177,12 +183,7 @@ pub fn try_word(t: Wrote, buf: &mut [u8], s: Word) -> Wrote
     ensures { λ r. ⌜ putOut r (now (buf .exit)) ≡ tryOn (putOut t (now (buf .entry))) (textOfWord s) ⌝ }
 {
     let m = t.mode;
-    let w = put_word(m, buf, s);
-    let mode = w.mode;
-    Wrote {
-        answer: first(t.answer, w.answer),
-        mode,
-    }
+    after(t.answer, put_word(m, buf, s))
 }
 
 // n spaces tried after others.
@@ -190,10 +191,5 @@ pub fn try_spaces(t: Wrote, buf: &mut [u8], n: usize) -> Wrote
     ensures { λ r. ⌜ putOut r (now (buf .exit)) ≡ tryOn (putOut t (now (buf .entry))) (spaces n) ⌝ }
 {
     let m = t.mode;
-    let w = put_spaces(m, buf, n);
-    let mode = w.mode;
-    Wrote {
-        answer: first(t.answer, w.answer),
-        mode,
-    }
+    after(t.answer, put_spaces(m, buf, n))
 }

@@ -39,13 +39,18 @@ pop-requires c κs =
 
 returns-3 : tie.Need-returns-3
 returns-3 c =
-    let a = c .before .before .before .before .before .before .before .before .before .before .before .args in
-    let i = c .before .before .before .before .before .before .before .before .before .begin in
-    let f = c .before .before .before .before .before .before .judge-endsub in
-    let l = c .before .before .before .flags-in in
+    let at-flags-in = c .before .before .before in
+    let at-if2 = at-flags-in .before .before in
+    let at-judge-endsub = at-if2 .before in
+    let at-if1 = at-judge-endsub .before in
+    let at-begin = at-if1 .before .before in
+    let a = at-begin .before .before .args in
+    let i = at-begin .begin in
+    let f = at-judge-endsub .judge-endsub in
+    let l = at-flags-in .flags-in in
     let y = c .before .margin-in in
     let x = c .before .before .flags-number in
-    rw (c .pop .ensures) (endsub-done (a .h) (a .stack .now) (a .buf .now) (i .result) (i .ensures .0) (c .before .before .before .before .before .before .before .if1 .left) (f .result) (c .before .before .before .before .before .if2 .left) (f .ensures (marginOf (a .h .margin))) (l .result) (l .ensures) (y .result) (y .ensures) (omega arith) (x .result) (x .ensures .1))
+    rw (c .pop .ensures) (endsub-done (a .h) (a .stack .now) (a .buf .now) (i .result) (i .ensures .0) (at-if1 .if1 .left) (f .result) (at-if2 .if2 .left) (f .ensures (marginOf (a .h .margin))) (l .result) (l .ensures) (y .result) (y .ensures) (omega arith) (x .result) (x .ensures .1))
 
 pub endsub-at-spec : {M : Type 1} → statement M
 endsub-at-spec = tie.close (tie.spec (λ c κs. search needs) (λ c κs. search needs) returns (λ c κs. search needs) (λ c κs. search needs) returns-2 (λ c κs. search needs) (λ c κs. search needs) (λ c κs. search needs) (λ c. search needs) pop-requires returns-3)

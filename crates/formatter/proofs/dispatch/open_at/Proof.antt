@@ -32,8 +32,8 @@ returns-2 c =
 pack-builder-requires : tie.Need-pack-builder-requires
 pack-builder-requires c κs =
     let at-put-name = c .before .before .before .before in
-    let at-args = at-put-name .before .before .before .before .before .before .before .before .before .before .before .before in
-    let a = at-args .args in
+    let at-begin = at-put-name .before .before .before .before .before .before .before in
+    let a = at-begin .before .before .before .before .before .args in
     opened-refusal (outputOf (a .h .mode) (a .buf .now)) (openPieces (a .k) (a .name .now)) (at-put-name .put-name .ensures)
 
 push-requires : tie.Need-push-requires
@@ -51,11 +51,15 @@ push-requires c κs =
 
 add-t20 : tie.Need-add-t20
 add-t20 c =
-    let a = c .before .before .before .before .before .before .before .before .before .before .before .before .before .before .before .before .before .before .args in
-    let i = c .before .before .before .before .before .before .before .before .before .before .before .before .before .begin in
-    let f = c .before .before .before .before .before .before .before .before .before .judge-open in
-    let m = c .before .before .before .before .before .before .before .before .before .before .margin in
-    let room = open-room (a .stack .now) (i .result .top) (i .result .depth) (m .result) (f .result) (begun-top (a .h) (a .stack .now) (a .buf .now) (i .result) (i .ensures .0)) (c .before .before .before .before .before .before .before .before .if2 .left) (a .k) (a .name .now) (f .ensures) in
+    let at-if2 = c .before .before .before .before .before .before .before .before in
+    let at-judge-open = at-if2 .before in
+    let at-margin = at-judge-open .before in
+    let at-begin = at-margin .before .before .before in
+    let a = at-begin .before .before .before .before .before .args in
+    let i = at-begin .begin in
+    let f = at-judge-open .judge-open in
+    let m = at-margin .margin in
+    let room = open-room (a .stack .now) (i .result .top) (i .result .depth) (m .result) (f .result) (begun-top (a .h) (a .stack .now) (a .buf .now) (i .result) (i .ensures .0)) (at-if2 .if2 .left) (a .k) (a .name .now) (f .ensures) in
     record { fits = omega arith }
 
 returns-3 : tie.Need-returns-3

@@ -1,22 +1,12 @@
-use Rattle.writer_backend.specs.Pieces.{tryOn}
 use borrow.Author.Needs.{needs}
+use mathlib.Core.Path.{_∙_}
+use Rattle.writer_backend.specs.Pieces.{tryOn}
 use Rattle.writer_backend.proofs.pieces.try_put.Statement.{statement}
 use Rattle.writer_backend.proofs.pieces.try_put.Tie as tie
 
-put-requires : tie.Need-put-requires
-put-requires c κs = search needs
-
-first-requires : tie.Need-first-requires
-first-requires c κs = search needs
-
-same-length : tie.Need-same-length
-same-length c = search needs
-
 returns : tie.Need-returns
 unfolding tryOn
-returns c =
-    let at-put = c .before .before .before .before in
-    rw (← at-put .put .ensures, ← c .first .ensures)
+returns c = c .after .ensures _ ∙ rw (← c .before .before .before .put .ensures)
 
 pub try-put-spec : {M : Type 1} → statement M
-try-put-spec = tie.close (tie.spec put-requires first-requires same-length returns)
+try-put-spec = tie.close (tie.spec (λ c κs. search needs) (λ c κs. search needs) (λ c. search needs) returns)

@@ -1,22 +1,12 @@
-use Rattle.writer_backend.specs.Pieces.{tryOn}
 use borrow.Author.Needs.{needs}
+use mathlib.Core.Path.{_∙_}
+use Rattle.writer_backend.specs.Pieces.{tryOn}
 use Rattle.writer_backend.proofs.pieces.try_word.Statement.{statement}
 use Rattle.writer_backend.proofs.pieces.try_word.Tie as tie
 
-put-word-requires : tie.Need-put-word-requires
-put-word-requires c κs = search needs
-
-first-requires : tie.Need-first-requires
-first-requires c κs = search needs
-
-same-length : tie.Need-same-length
-same-length c = search needs
-
 returns : tie.Need-returns
 unfolding tryOn
-returns c =
-    let at-put-word = c .before .before .before .before in
-    rw (← at-put-word .put-word .ensures, ← c .first .ensures)
+returns c = c .after .ensures _ ∙ rw (← c .before .before .before .put-word .ensures)
 
 pub try-word-spec : {M : Type 1} → statement M
-try-word-spec = tie.close (tie.spec put-word-requires first-requires same-length returns)
+try-word-spec = tie.close (tie.spec (λ c κs. search needs) (λ c κs. search needs) (λ c. search needs) returns)
