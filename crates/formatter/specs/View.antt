@@ -49,7 +49,7 @@ view h s b = record { output = outputOf (h .mode) b; flags = flagsOf (h .flags);
 abbrev pub viewOut : HeadStep → List ℕ → List ℕ → Out
 viewOut r s b = record { answer = r .answer; state = view (r .head) s b }
 
--- what every call begins with: the 9 that it meets, how many entries are open, the number of the innermost
+-- docs/DECISIONS.md, 'The formatter': what every call begins with: the 9 that it meets, how many entries are open, the number of the innermost
 abbrev pub begunAt : Head → List ℕ → List ℕ → Begun
 begunAt h s b = record { fault = beyond (modeOf (h .mode)) b; depth = depthOf (h .depth); top = topOf s (depthOf (h .depth)) }
 
