@@ -119,8 +119,8 @@ hold-uncut zero (writing p) = refl
 hold-uncut (suc n) m = refl
 
 -- what a call begins with, and its pieces, by their parts
-pub begun : (h : Head) (s b : List ℕ) {o d n : ℕ} → o ≡ beyond (modeOf (h .mode)) b → d ≡ depthOf (h .depth) → n ≡ topOf s d → record { fault = o; depth = d; top = n } ≡ begunAt h s b
-begun h s b eo ed en = rw (en, ed, eo)
+pub begun : (h : Head) (s : List ℕ) {d n : ℕ} → d ≡ depthOf (h .depth) → n ≡ topOf s d → record { depth = d; top = n } ≡ begunAt h s
+begun h s ed en = rw (en, ed)
 
 module _ (h : Head) (b : List ℕ) (n : ℕ) {k : Kind} {p : Bool} {f : FormattingFlags} {r : PieceOutcome} (ek : k ≡ builderOf n .kind) (ep : p ≡ hasPrinted (builderOf n)) (ef : f ≡ flagsOf (h .flags)) where
   pub by-place : (x : Place) {g m : ℕ} → g ≡ builderOf n .held → m ≡ marginOf (h .margin)
@@ -139,30 +139,18 @@ module _ (h : Head) (s b : List ℕ) where
     pub past-none : (o ≡ 0 → ⊥) → viewOut (record { answer = o; head = h }) s b ≡ stepOr (view h s b) none
     past-none q = rw (← eo, hold-on o _ q)
 
-    past-fault : (c : Option Call) → (o ≡ 0 → ⊥) → o ≡ faultOr (view h s b) c
+    pub past-fault : (c : Option Call) → (o ≡ 0 → ⊥) → o ≡ faultOr (view h s b) c
     past-fault none q = rw (← eo, hold-on o _ q)
     past-fault (some c) q = rw (← eo, hold-on o _ q)
 
-    none-fault : o ≡ 0 → 8 ≡ faultOr (view h s b) none
+    pub none-fault : o ≡ 0 → 8 ≡ faultOr (view h s b) none
     none-fault q = rw (← eo, q)
 
     pub none-wrong : o ≡ 0 → viewOut (record { answer = 8; head = h }) s b ≡ stepOr (view h s b) none
     none-wrong q = rw (← eo, q)
 
   -- what a call begins with
-  module _ (at : Begun) (e : at ≡ begunAt h s b) where
-    eo : at .fault ≡ beyond (modeOf (h .mode)) b
-    eo = ap (λ (x : Begun). x .fault) e
-
-    pub begun-past : (c : Call) → (at .fault ≡ 0 → ⊥) → viewOut (record { answer = at .fault; head = h }) s b ≡ step (view h s b) c
-    begun-past = past-end (at .fault) eo
-
-    pub judged-past : (c : Option Call) → (at .fault ≡ 0 → ⊥) → at .fault ≡ faultOr (view h s b) c
-    judged-past = past-fault (at .fault) eo
-
-    pub judged-none : at .fault ≡ 0 → 8 ≡ faultOr (view h s b) none
-    judged-none = none-fault (at .fault) eo
-
+  module _ (at : Begun) (e : at ≡ begunAt h s) where
     ed : at .depth ≡ depthOf (h .depth)
     ed = ap (λ (x : Begun). x .depth) e
 
@@ -172,14 +160,14 @@ module _ (h : Head) (s b : List ℕ) where
     pub begun-top : at .top ≡ topOf s (at .depth)
     begun-top = rw e
 
-    module _ (qo : at .fault ≡ 0) where
+    module _ (within : beyond (modeOf (h .mode)) b ≡ 0) where
       stack-is : stackOf s (depthOf (h .depth)) ≡ stackOf s (at .depth)
       stack-is = rw (← ed)
 
       -- a call that cuts nothing meets what it is judged by
       module _ (m : ℕ) (em : m ≡ marginOf (h .margin)) (c : Call) (uncut : cutOf c ≡ none) (r : ℕ) (er : FaultAt r (at .top) (at .depth) m c) where
         pub met : r ≡ faultOf (view h s b) c
-        met = rw (← eo, qo, stack-is, length-stack s (at .depth), ← em, ← er s begun-top, uncut) (sym (hold-uncut r (modeOf (h .mode))))
+        met = rw (within, stack-is, length-stack s (at .depth), ← em, ← er s begun-top, uncut) (sym (hold-uncut r (modeOf (h .mode))))
 
         pub refuses : (r ≡ 0 → ⊥) → viewOut (record { answer = r; head = h }) s b ≡ step (view h s b) c
         refuses q = rw (← met) (guard-on r (view h s b) _ q)
@@ -188,7 +176,7 @@ module _ (h : Head) (s b : List ℕ) where
         does q y e = e ∙ rw (← met, q)
 
       pub value-fault : (v : Value) (r : ℕ) → r ≡ hold (callFault (inner (stackOf s (at .depth))) (at .depth) (marginOf (h .margin)) (value v)) (cutIn (modeOf (h .mode)) (cutNumber (value v))) → r ≡ faultOf (view h s b) (value v)
-      value-fault v r e = rw (← eo, qo, stack-is) e
+      value-fault v r e = rw (within, stack-is) e
 
       below : stackOf s (depthOf (at .depth - 1)) ≡ stackOf s (at .depth - 1)
       below = rw (← depth-in (at .depth - 1) (omega (arith, begun-depth)))
@@ -255,15 +243,15 @@ module _ (h : Head) (s b : List ℕ) where
         suits-value = rw stack-is (top-ready s (at .depth) (at .top) begun-top ∙ sym et)
 
         pub value-wrong : t ≡ false → viewOut (record { answer = 8; head = h }) s b ≡ step (view h s b) (value v)
-        value-wrong p = rw (← eo, qo, suits-value, p)
+        value-wrong p = rw (within, suits-value, p)
 
         -- a value that suits is what its piece answers
         pub value-done : t ≡ true → (f : FormattingFlags) → f ≡ flagsOf (h .flags) → (w : Wrote) (b' : List ℕ) → putOut w b' ≡ valueOut (h .mode) b f v
             → viewOut (record { answer = w .answer; head = record { mode = w .mode; flags = h .flags; margin = h .margin; depth = h .depth } }) s b' ≡ step (view h s b) (value v)
         unfolding valueOut
         value-done p f ef w b' ew =
-            rw (← eo, qo, suits-value, p)
-            (ap out (rw ef at ew ∙ rw (← eo, qo)) ∙ go (hold (faultNumber (inputFault v)) (cutIn (modeOf (h .mode)) (faultNumber (cutFault v)))) (putValue (outputOf (h .mode) b) (flagsOf (h .flags)) v))
+            rw (within, suits-value, p)
+            (ap out (rw ef at ew ∙ rw within) ∙ go (hold (faultNumber (inputFault v)) (cutIn (modeOf (h .mode)) (faultNumber (cutFault v)))) (putValue (outputOf (h .mode) b) (flagsOf (h .flags)) v))
           where
             out : PieceOutcome → Out
             out y = record { answer = y .answer; state = record { output = y .output; flags = flagsOf (h .flags); margin = marginOf (h .margin); stack = stackOf s (depthOf (h .depth)) } }

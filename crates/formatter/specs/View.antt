@@ -49,9 +49,9 @@ view h s b = record { output = outputOf (h .mode) b; flags = flagsOf (h .flags);
 abbrev pub viewOut : HeadStep → List ℕ → List ℕ → Out
 viewOut r s b = record { answer = r .answer; state = view (r .head) s b }
 
--- docs/DECISIONS.md, 'The formatter': what every call begins with: the 9 that it meets, how many entries are open, the number of the innermost
-abbrev pub begunAt : Head → List ℕ → List ℕ → Begun
-begunAt h s b = record { fault = beyond (modeOf (h .mode)) b; depth = depthOf (h .depth); top = topOf s (depthOf (h .depth)) }
+-- docs/DECISIONS.md, 'The formatter': what every call begins with, once it does not meet 9: how many entries are open, the number of the innermost
+abbrev pub begunAt : Head → List ℕ → Begun
+begunAt h s = record { depth = depthOf (h .depth); top = topOf s (depthOf (h .depth)) }
 
 -- Document 01, 'A nested record', field or entry: its pieces, tried from what the builder holds
 abbrev pub placeTried : Head → List ℕ → Builder → Place → PieceOutcome

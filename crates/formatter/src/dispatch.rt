@@ -60,22 +60,19 @@ pub enum Op {
     Nothing,
 }
 
-// What every call begins with: the 9 that it meets, how many entries are open, and the number of the
-// innermost.
+// What every call begins with, once it does not meet 9: how many entries are open, and the number of
+// the innermost. The 9 is no part of it: tested alone, it costs a branch that is never taken.
 struct Begun {
-    fault: u8,
     depth: usize,
     top: u32,
 }
 
-fn begin(h: Head, stack: &[u32; 64], buf: &[u8]) -> Begun
-    ensures { λ r. ⌜ r ≡ begunAt h (now (stack .entry)) (now (buf .entry)) ⌝ }
+fn begin(h: Head, stack: &[u32; 64]) -> Begun
+    ensures { λ r. ⌜ r ≡ begunAt h (now (stack .entry)) ⌝ }
     ensures { λ _. ⌜ length (now (stack .entry)) ≡ 64 ⌝ }
 {
-    let mode = h.mode;
     let depth = h.open_entries();
     Begun {
-        fault: past(mode, buf),
         depth,
         top: innermost(stack, depth),
     }
@@ -92,10 +89,11 @@ fn refused(h: Head, answer: u8) -> HeadStep
 fn open_at(h: Head, stack: &mut [u32; 64], buf: &mut [u8], k: Kind, name: &[u8]) -> HeadStep
     ensures { λ r. ⌜ viewOut r (now (stack .exit)) (now (buf .exit)) ≡ step (view h (now (stack .entry)) (now (buf .entry))) (opens k (now (name .entry))) ⌝ }
 {
-    let at = begin(h, stack, buf);
-    if at.fault != 0 {
-        return refused(h, at.fault);
+    let over = past(h.mode, buf);
+    if over != 0 {
+        return refused(h, over);
     }
+    let at = begin(h, stack);
     let margin = h.margin();
     let fault = judge_open(at.top, at.depth, margin, k, name);
     if fault != 0 {
@@ -141,10 +139,11 @@ fn emit_place(h: Head, buf: &mut [u8], top: u32, p: PlaceKind, name: &[u8]) -> W
 fn place_at(h: Head, stack: &mut [u32; 64], buf: &mut [u8], p: PlaceKind, name: &[u8]) -> HeadStep
     ensures { λ r. ⌜ viewOut r (now (stack .exit)) (now (buf .exit)) ≡ step (view h (now (stack .entry)) (now (buf .entry))) (place (placeOf p (now (name .entry)))) ⌝ }
 {
-    let at = begin(h, stack, buf);
-    if at.fault != 0 {
-        return refused(h, at.fault);
+    let over = past(h.mode, buf);
+    if over != 0 {
+        return refused(h, over);
     }
+    let at = begin(h, stack);
     let top = at.top;
     let fault = judge_place(top, p, name);
     if fault != 0 {
@@ -189,10 +188,11 @@ fn emit_close(h: Head, buf: &mut [u8], top: u32, margin: u16) -> Wrote
 fn finish_at(h: Head, stack: &[u32; 64], buf: &mut [u8]) -> HeadStep
     ensures { λ r. ⌜ viewOut r (now (stack .entry)) (now (buf .exit)) ≡ step (view h (now (stack .entry)) (now (buf .entry))) finish ⌝ }
 {
-    let at = begin(h, stack, buf);
-    if at.fault != 0 {
-        return refused(h, at.fault);
+    let over = past(h.mode, buf);
+    if over != 0 {
+        return refused(h, over);
     }
+    let at = begin(h, stack);
     let top = at.top;
     let fault = judge_finish(top);
     if fault != 0 {
@@ -230,10 +230,11 @@ fn finish_at(h: Head, stack: &[u32; 64], buf: &mut [u8]) -> HeadStep
 fn sub_at(h: Head, stack: &mut [u32; 64], buf: &[u8], f: FormattingFlags) -> HeadStep
     ensures { λ r. ⌜ viewOut r (now (stack .exit)) (now (buf .entry)) ≡ step (view h (now (stack .entry)) (now (buf .entry))) (sub f) ⌝ }
 {
-    let at = begin(h, stack, buf);
-    if at.fault != 0 {
-        return refused(h, at.fault);
+    let over = past(h.mode, buf);
+    if over != 0 {
+        return refused(h, over);
     }
+    let at = begin(h, stack);
     let fault = judge_sub(at.top, at.depth);
     if fault != 0 {
         return refused(h, fault);
@@ -255,10 +256,11 @@ fn sub_at(h: Head, stack: &mut [u32; 64], buf: &[u8], f: FormattingFlags) -> Hea
 fn endsub_at(h: Head, stack: &[u32; 64], buf: &[u8]) -> HeadStep
     ensures { λ r. ⌜ viewOut r (now (stack .entry)) (now (buf .entry)) ≡ step (view h (now (stack .entry)) (now (buf .entry))) endsub ⌝ }
 {
-    let at = begin(h, stack, buf);
-    if at.fault != 0 {
-        return refused(h, at.fault);
+    let over = past(h.mode, buf);
+    if over != 0 {
+        return refused(h, over);
     }
+    let at = begin(h, stack);
     let top = at.top;
     let fault = judge_endsub(top, at.depth);
     if fault != 0 {
@@ -280,10 +282,11 @@ fn endsub_at(h: Head, stack: &[u32; 64], buf: &[u8]) -> HeadStep
 fn value_at(h: Head, stack: &[u32; 64], buf: &mut [u8], v: PVariant, s: &[u8]) -> HeadStep
     ensures { λ r. ⌜ viewOut r (now (stack .entry)) (now (buf .exit)) ≡ step (view h (now (stack .entry)) (now (buf .entry))) (value (valueOf v (now (s .entry)))) ⌝ }
 {
-    let at = begin(h, stack, buf);
-    if at.fault != 0 {
-        return refused(h, at.fault);
+    let over = past(h.mode, buf);
+    if over != 0 {
+        return refused(h, over);
     }
+    let at = begin(h, stack);
     if !is_ready(at.top) {
         return refused(h, Answer::WrongCall.number());
     }
@@ -334,10 +337,11 @@ fn judge_value(mode: WriterBackend, top: u32, v: PVariant, s: &[u8]) -> u8
 pub fn judge(h: Head, stack: &[u32; 64], buf: &[u8], op: Op, s: &[u8]) -> u8
     ensures { λ r. ⌜ r ≡ faultOr (view h (now (stack .entry)) (now (buf .entry))) (callOf op (now (s .entry))) ⌝ }
 {
-    let at = begin(h, stack, buf);
-    if at.fault != 0 {
-        return at.fault;
+    let over = past(h.mode, buf);
+    if over != 0 {
+        return over;
     }
+    let at = begin(h, stack);
     match op {
         Op::Open(k) => judge_open(at.top, at.depth, h.margin(), k, s),
         Op::Place(p) => judge_place(at.top, p, s),

@@ -69,10 +69,14 @@ pub fn is_backslash_escaped(b: u8) -> bool
     }
 }
 
-// Whether a byte is not written as itself.
+// Whether a byte is not written as itself. Most bytes are above the apostrophe, where the backslash
+// alone is escaped.
 pub fn is_escaped(b: u8) -> bool
     ensures { λ r. ⌜ r ≡ isEscaped (escapeOf b) ⌝ }
 {
+    if b'\'' < b {
+        return b == b'\\';
+    }
     match escape_of(b) {
         Escape::Bare => false,
         Escape::Backslash(_) => true,

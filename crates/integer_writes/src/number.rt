@@ -21,7 +21,8 @@ use pwrapper::binary_len_u64;
 use pwrapper::compute_display_len_u64;
 use pwrapper::hexadecimal_len_u64;
 use str_writer::Written;
-use str_writer::piece_fault;
+use str_writer::cursor_fault;
+use str_writer::room_fault;
 
 // Lays the decimal digits of n, the last right before end.
 fn lay_decimal(buf: &mut [u8], end: usize, n: u64)
@@ -107,10 +108,14 @@ pub fn decimal_len(is_negative: bool, n: u64) -> usize
 pub fn write_decimal(buf: &mut [u8], at: usize, is_negative: bool, n: u64) -> Written
     ensures { λ r. ⌜ outcome r (now (buf .exit)) ≡ putText (now (buf .entry)) at (cond «is_negative» (45 ∷ []) [] ++ decimal n) ⌝ }
 {
-    let len = decimal_len(is_negative, n);
-    let fault = piece_fault(buf.len(), at, len);
+    let fault = cursor_fault(buf.len(), at);
     if !fault.is_done() {
         return Written { at, answer: fault };
+    }
+    let len = decimal_len(is_negative, n);
+    let short = room_fault(buf.len() - at, len);
+    if !short.is_done() {
+        return Written { at, answer: short };
     }
     let end = at + len;
     put_minus(buf, at, is_negative);
@@ -125,10 +130,14 @@ pub fn write_decimal(buf: &mut [u8], at: usize, is_negative: bool, n: u64) -> Wr
 fn write_hexadecimal(buf: &mut [u8], at: usize, n: u64, flags: FormattingFlags) -> Written
     ensures { λ r. ⌜ outcome r (now (buf .exit)) ≡ putText (now (buf .entry)) at (hexText flags n) ⌝ }
 {
-    let hex_len = hexadecimal_len_u64(n, flags);
-    let fault = piece_fault(buf.len(), at, hex_len);
+    let fault = cursor_fault(buf.len(), at);
     if !fault.is_done() {
         return Written { at, answer: fault };
+    }
+    let hex_len = hexadecimal_len_u64(n, flags);
+    let short = room_fault(buf.len() - at, hex_len);
+    if !short.is_done() {
+        return Written { at, answer: short };
     }
     let end = at + hex_len;
     let hex_fmt = flags.hex_fmt;
@@ -144,10 +153,14 @@ fn write_hexadecimal(buf: &mut [u8], at: usize, n: u64, flags: FormattingFlags) 
 fn write_binary(buf: &mut [u8], at: usize, n: u64, flags: FormattingFlags) -> Written
     ensures { λ r. ⌜ outcome r (now (buf .exit)) ≡ putText (now (buf .entry)) at (binText flags n) ⌝ }
 {
-    let bin_len = binary_len_u64(n, flags);
-    let fault = piece_fault(buf.len(), at, bin_len);
+    let fault = cursor_fault(buf.len(), at);
     if !fault.is_done() {
         return Written { at, answer: fault };
+    }
+    let bin_len = binary_len_u64(n, flags);
+    let short = room_fault(buf.len() - at, bin_len);
+    if !short.is_done() {
+        return Written { at, answer: short };
     }
     let end = at + bin_len;
     put_prefix(buf, at, flags.is_alternate, b'b');

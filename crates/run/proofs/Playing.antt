@@ -2,7 +2,7 @@
 use mathlib.Core.Option.{Option, none, some}
 use mathlib.Core.Path.{_≡_, refl, sym, ap, _∙_}
 use mathlib.Core.List.{List, [], _∷_}
-use Prim.Native.Nat.{ℕ, zero, suc, _+_, _/_, _≤_, _<_}
+use Prim.Native.Nat.{ℕ, zero, suc, _+_, _≤_, _<_}
 use native.Mathlib.Nat.{add-zero, zero-add, suc-add, add-suc}
 use native.Mathlib.Numerals.{add-one}
 use native.Mathlib.Omega.{arith}
@@ -107,16 +107,6 @@ place-last a k p e = rw e refl
 pub place-met : (a k p : ℕ) → (a ≡ 0 → ⊥) → p ≡ placeOr a k p
 place-met zero k p e = absurd (e refl)
 place-met (suc a) k p e = refl
-
--- the same of the word that a call begins at, five to a call
-pub noted-words : (a x i p : ℕ) → noted a x i p / 5 ≡ noted a x (i / 5) (p / 5)
-noted-words zero zero i p = refl
-noted-words zero (suc x) i p = refl
-noted-words (suc a) x i p = refl
-
-pub place-words : (a i p : ℕ) → placeOr a i p / 5 ≡ placeOr a (i / 5) (p / 5)
-place-words zero i p = refl
-place-words (suc a) i p = refl
 
 rest-next : (a p k x : ℕ) (l : List ℕ) (r : Run) → rest (hold a x) (noted a x k p) (suc k) (set l k x) r ≡ rest a p k l (record { answers = x ∷ r .answers; state = r .state })
 rest-next a p k x l r = rw (hold-hold a x (firstRefusal (r .answers)), place-next a x k p (r .answers), stored-next k l x (r .answers))

@@ -31,17 +31,17 @@ struct End {
     mode: WriterBackend,
 }
 
-// Notes an answer with the word that its call begins at, if it is the first refusal.
-fn note(first: &mut u8, place: &mut usize, answer: u8, i: usize)
+// Notes an answer with the place of its call, if it is the first refusal.
+fn note(first: &mut u8, place: &mut usize, answer: u8, k: usize)
     ensures { λ _. ⌜ now (first .exit) ≡ hold (now (first .entry)) answer ⌝ }
-    ensures { λ _. ⌜ now (place .exit) ≡ noted (now (first .entry)) answer i (now (place .entry)) ⌝ }
+    ensures { λ _. ⌜ now (place .exit) ≡ noted (now (first .entry)) answer k (now (place .entry)) ⌝ }
 {
     if answer == 0 {
         return;
     }
     if *first == 0 {
         *first = answer;
-        *place = i;
+        *place = k;
     }
 }
 
@@ -55,13 +55,10 @@ fn place_of(refusal: u8, end: usize, place: usize) -> usize
     place
 }
 
-// Stores an answer in its place, if there is one. No places at all is the common case.
+// Stores an answer in its place, if there is one.
 fn store(answers: &mut [u8], at: usize, answer: u8)
     ensures { λ _. ⌜ now (answers .exit) ≡ set (now (answers .entry)) at answer ⌝ }
 {
-    if answers.len() == 0 {
-        return;
-    }
     if at < answers.len() {
         answers[at] = answer;
     }
@@ -86,9 +83,10 @@ fn play(
     let mut head = Head::new(mode, settings);
     *first = past(mode, buf);
     *place = 0;
-    let mut i = 0;
-    let len = calls.len() / 5 * 5;
-    while i < len {
+    let mut k = 0;
+    let len = calls.len() / 5;
+    while k < len {
+        let i = 5 * k;
         let words = [
             calls[i],
             calls[i + 1],
@@ -99,11 +97,11 @@ fn play(
         let r = call_at(head, &mut stack, buf, words, text);
         let after = r.head;
         head = after;
-        note(first, place, r.answer, i);
-        store(answers, i / 5, r.answer);
-        i += 5;
+        note(first, place, r.answer, k);
+        store(answers, k, r.answer);
+        k += 1;
     }
-    *place = place_of(*first, i, *place) / 5;
+    *place = place_of(*first, k, *place);
     let end = head.mode;
     End {
         entries: head.open_entries(),

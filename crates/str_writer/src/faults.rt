@@ -1,7 +1,7 @@
 // What a single write meets before it emits, each fault in one function, and the faults of a write in their order.
 ghost use mathlib.Core.Path.{_≡_};
 ghost use mathlib.Core.List.{List, [], _∷_};
-ghost use Prim.Native.Nat.{ℕ};
+ghost use Prim.Native.Nat.{ℕ, _-_, _≤_};
 ghost use lib.ListN.{length};
 ghost use Rattle.error.specs.Answer.{answerOf};
 ghost use Rattle.utils.specs.declared.Range.{Range};
@@ -25,7 +25,17 @@ pub fn cursor_fault(len: usize, at: usize) -> Answer
     Answer::Done
 }
 
-// 9, then 1 where a piece of n bytes exceeds what is left of len.
+// 1 where a piece of n bytes exceeds the room bytes from the cursor to the end.
+pub fn room_fault(room: usize, n: usize) -> Answer
+    ensures { λ r. ⌜ ((b t : List ℕ) (at : ℕ) → at ≤ length b → length b - at ≡ room → length t ≡ n → r ≡ put b at t .written .answer) ⌝ }
+{
+    if room < n {
+        return Answer::NotEnoughSpace;
+    }
+    Answer::Done
+}
+
+// 9, then 1, of a piece of n bytes at a cursor of len bytes.
 pub fn piece_fault(len: usize, at: usize, n: usize) -> Answer
     ensures { λ r. ⌜ ((b t : List ℕ) → length b ≡ len → length t ≡ n → r ≡ put b at t .written .answer) ⌝ }
 {
@@ -33,10 +43,7 @@ pub fn piece_fault(len: usize, at: usize, n: usize) -> Answer
     if !fault.is_done() {
         return fault;
     }
-    if len - at < n {
-        return Answer::NotEnoughSpace;
-    }
-    Answer::Done
+    room_fault(len - at, n)
 }
 
 // 4 where s is not UTF-8.

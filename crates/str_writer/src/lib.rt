@@ -23,6 +23,7 @@ pub use faults::judge_char;
 pub use faults::judge_str;
 pub use faults::piece_fault;
 pub use faults::range_fault;
+pub use faults::room_fault;
 pub use faults::str_fault;
 pub use piece::Written;
 pub use piece::put;

@@ -5,11 +5,9 @@ use Rattle.formatter.proofs.dispatch.begin.Tie as tie
 
 returns : tie.Need-returns
 returns c =
-    let at-past = c .before .before in
-    let at-open-entries = at-past .before in
-    let at-args = at-open-entries .before .before .before in
-    let a = at-args .args in
-    (begun (a .h) (a .stack .now) (a .buf .now) (at-past .past .ensures) (at-open-entries .open-entries .ensures .1 .0) (c .innermost .ensures), c .before .innermost-arg .given .0)
+    let at-open-entries = c .before .before in
+    let a = at-open-entries .before .args in
+    (begun (a .h) (a .stack .now) (at-open-entries .open-entries .ensures .1 .0) (c .innermost .ensures), c .before .innermost-arg .given .0)
 
 pub begin-spec : {M : Type 1} → statement M
-begin-spec = tie.close (tie.spec (λ c κs. search needs) (λ c κs. search needs) (λ c κs. search needs) returns)
+begin-spec = tie.close (tie.spec (λ c κs. search needs) (λ c κs. search needs) returns)

@@ -4,16 +4,9 @@ use Prim.Native.Nat.{ℕ, _≤_}
 use borrow.Author.Tests.{not-true, not-false}
 use borrow.Author.Needs.{needs}
 use Rattle.str_writer.specs.Write.{Outcome}
-use Rattle.str_writer.proofs.Outcomes.{put-short, put-done}
 use Rattle.str_writer.proofs.Judging.{cursor-fits, put-cursor}
 use Rattle.str_writer.proofs.faults.piece_fault.Statement.{statement}
 use Rattle.str_writer.proofs.faults.piece_fault.Tie as tie
-
-cursor-fault-requires : tie.Need-cursor-fault-requires
-cursor-fault-requires c κs = search needs
-
-is-done-requires : tie.Need-is-done-requires
-is-done-requires c κs = search needs
 
 returns : tie.Need-returns
 returns c = λ b t e k.
@@ -28,21 +21,14 @@ fits c =
     let e = length-replicate {A = ℕ} n 0 in
     rw e at (cursor-fits (replicate n 0) (d .before .args .at) _ (d .cursor-fault .ensures (replicate n 0) e) (sym (c .before .is-done .ensures) ∙ not-false _ (c .if1 .left)))
 
-sub-if2 : tie.Need-sub-if2
-sub-if2 c = fits c
+sub-room-fault : tie.Need-sub-room-fault
+sub-room-fault c = fits c
 
 returns-2 : tie.Need-returns-2
 returns-2 c = λ b t e k.
     let a = c .before .before .before .before .args in
     let h = fits (c .before) in
-    ap (λ (o : Outcome). o .written .answer) (put-short b (a .at) t (rw e h) (rw (e, k) (c .if2 .taken)))
-
-returns-3 : tie.Need-returns-3
-returns-3 c = λ b t e k.
-    let a = c .before .before .before .before .args in
-    let h = fits (c .before) in
-    ap (λ (o : Outcome). o .written .answer) (put-done b (a .at) t (rw e h) (rw (e, k) (c .if2 .left)))
+    c .room-fault .ensures b t (a .at) (rw e h) (rw e) k
 
 pub piece-fault-spec : {M : Type 1} → statement M
-piece-fault-spec =
-    tie.close (tie.spec cursor-fault-requires is-done-requires returns sub-if2 returns-2 returns-3)
+piece-fault-spec = tie.close (tie.spec (λ c κs. search needs) (λ c κs. search needs) returns sub-room-fault (λ c κs. search needs) returns-2)
