@@ -1,7 +1,8 @@
 //! Nanoseconds of single calls and of whole runs, here and by const_format, in one program. Both
 //! sides are functions that are not inlined and take the same inputs, which the compiler cannot see;
 //! the buffers are not cleared. Each figure is the best of many rounds, and the rounds of the two
-//! sides alternate.
+//! sides alternate. With `--ours`, the nanoseconds of our side alone, a figure to a line, as
+//! compare/against reads them.
 
 #[path = "calls.rs"]
 mod calls;
@@ -21,9 +22,24 @@ fn round(n: u64, f: &mut dyn FnMut(u64)) -> f64 {
     start.elapsed().as_nanos() as f64 / n as f64
 }
 
+/// Whether our side alone is measured.
+fn ours_alone() -> bool {
+    std::env::args().nth(1).as_deref() == Some("--ours")
+}
+
+/// A figure of our side alone: the least of 31 rounds.
+fn figure(name: &str, per: f64, ours: &mut dyn FnMut(u64)) {
+    let n = (300_000.0 / round(1000, ours).max(1.0)) as u64 + 1;
+    let least = (0..31).fold(f64::MAX, |least, _| least.min(round(n, ours)));
+    println!("{name}\t{:.3}", least / per);
+}
+
 /// A row of the table: the least of the rounds of each side.
 fn row(name: &str, mut ours: impl FnMut() -> u8, mut theirs: impl FnMut() -> u8) {
     let mut ours = |n| (0..n).for_each(|_| assert_eq!(ours(), 0));
+    if ours_alone() {
+        return figure(name, 1.0, &mut ours);
+    }
     let mut theirs = |n| (0..n).for_each(|_| assert_eq!(theirs(), 0));
     let estimate = round(1000, &mut theirs).max(1.0);
     let n = (1_000_000.0 / estimate) as u64 + 1;
@@ -359,7 +375,9 @@ fn runs() {
 
 /// Ours alone: nanoseconds by the length of a text, by the depth and by the buffer.
 fn growth() {
-    println!("\n| ours | written | counted |\n|---|---|---|");
+    if !ours_alone() {
+        println!("\n| ours | written | counted |\n|---|---|---|");
+    }
     let measure = |name: &str, run: &[Call], size: usize, per: f64| {
         let words = Encoded::new(run);
         let mut buf = vec![0u8; size];
@@ -376,7 +394,7 @@ fn growth() {
                 assert_eq!(r.0, 0);
             }
         };
-        let count = |n| {
+        let mut count = |n| {
             for _ in 0..n {
                 assert_eq!(
                     library::count(
@@ -389,10 +407,14 @@ fn growth() {
                 );
             }
         };
+        if ours_alone() {
+            figure(&format!("{name}, written"), per, &mut write);
+            return figure(&format!("{name}, counted"), per, &mut count);
+        }
         let (mut a, mut b) = (f64::MAX, f64::MAX);
         for _ in 0..ROUNDS {
             a = a.min(round(2000, &mut write));
-            b = b.min(round(2000, &mut { count }));
+            b = b.min(round(2000, &mut count));
         }
         println!("| {name} | {:.1} | {:.1} |", a / per, b / per);
     };
@@ -434,7 +456,9 @@ fn growth() {
 }
 
 fn main() {
-    println!("| | here | const_format | ratio |\n|---|---|---|---|");
+    if !ours_alone() {
+        println!("| | here | const_format | ratio |\n|---|---|---|---|");
+    }
     let same = |x| x;
     single!(
         "u64 of 1 digit",
