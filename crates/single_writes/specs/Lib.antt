@@ -1,2 +1,3 @@
 pub mod ByFlags
 pub mod Laid
+pub mod Single

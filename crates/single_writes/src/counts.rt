@@ -4,11 +4,9 @@ ghost use mathlib.Core.List.{List, []};
 ghost use Prim.Native.Nat.{ℕ};
 ghost use lib.IntN.{pos};
 ghost use lib.ListN.{length};
-ghost use Rattle.formatting.specs.Flags.{defaultFlags};
-ghost use Rattle.str_writer.specs.Value.{integer, char, str, display, debug, whole};
-ghost use Rattle.calls.specs.Model.{to, counting, putIn};
-ghost use Rattle.value_writes.specs.Values.{valueOut};
-ghost use Rattle.single_writes.specs.ByFlags.{byFlags, wrongFlags, from};
+ghost use Rattle.str_writer.specs.Value.{integer, char, str, display, debug};
+ghost use Rattle.calls.specs.Model.{counting, putIn};
+ghost use Rattle.single_writes.specs.Single.{entire, totals, counts, countsBy};
 use char_encoding::char_debug_len;
 use char_encoding::char_display_len;
 use error::Answer;
@@ -35,7 +33,7 @@ use str_writer::str_fault;
 
 // Adds a length to a total, or gives 6 where that would pass 2^64 - 1.
 fn add(total: &mut usize, len: usize) -> u8
-    ensures { λ r. ⌜ ((t : List ℕ) → len ≡ length t → to (counting (now (total .exit))) [] r ≡ putIn (counting (now (total .entry))) [] t (λ n. [])) ⌝ }
+    ensures { λ r. ⌜ ((t : List ℕ) → len ≡ length t → totals r (now (total .exit)) ≡ putIn (counting (now (total .entry))) [] t (λ n. [])) ⌝ }
 {
     if len <= usize::MAX - *total {
         *total += len;
@@ -47,7 +45,7 @@ fn add(total: &mut usize, len: usize) -> u8
 // Counts a u8 in decimal.
 #[no_mangle]
 pub extern "C" fn single_count_u8_display(total: &mut usize, x: u8) -> u8
-    ensures { λ r. ⌜ to (counting (now (total .exit))) [] r ≡ valueOut (from (now (total .entry))) [] defaultFlags (integer display 8 (pos x)) ⌝ }
+    ensures { λ r. ⌜ totals r (now (total .exit)) ≡ counts (now (total .entry)) (integer display 8 (pos x)) ⌝ }
 {
     add(total, compute_display_len_u8(x))
 }
@@ -55,7 +53,7 @@ pub extern "C" fn single_count_u8_display(total: &mut usize, x: u8) -> u8
 // Counts a u8 in the form that the flags say.
 #[no_mangle]
 pub extern "C" fn single_count_u8_debug(total: &mut usize, x: u8, flags: u64) -> u8
-    ensures { λ r. ⌜ to (counting (now (total .exit))) [] r ≡ byFlags flags (wrongFlags (counting (now (total .entry))) []) (λ f. valueOut (from (now (total .entry))) [] f (integer debug 8 (pos x))) ⌝ }
+    ensures { λ r. ⌜ totals r (now (total .exit)) ≡ countsBy flags (now (total .entry)) (integer debug 8 (pos x)) ⌝ }
 {
     if flags >= 12 {
         return Answer::WrongCall.number();
@@ -66,7 +64,7 @@ pub extern "C" fn single_count_u8_debug(total: &mut usize, x: u8, flags: u64) ->
 // Counts a u16 in decimal.
 #[no_mangle]
 pub extern "C" fn single_count_u16_display(total: &mut usize, x: u16) -> u8
-    ensures { λ r. ⌜ to (counting (now (total .exit))) [] r ≡ valueOut (from (now (total .entry))) [] defaultFlags (integer display 16 (pos x)) ⌝ }
+    ensures { λ r. ⌜ totals r (now (total .exit)) ≡ counts (now (total .entry)) (integer display 16 (pos x)) ⌝ }
 {
     add(total, compute_display_len_u16(x))
 }
@@ -74,7 +72,7 @@ pub extern "C" fn single_count_u16_display(total: &mut usize, x: u16) -> u8
 // Counts a u16 in the form that the flags say.
 #[no_mangle]
 pub extern "C" fn single_count_u16_debug(total: &mut usize, x: u16, flags: u64) -> u8
-    ensures { λ r. ⌜ to (counting (now (total .exit))) [] r ≡ byFlags flags (wrongFlags (counting (now (total .entry))) []) (λ f. valueOut (from (now (total .entry))) [] f (integer debug 16 (pos x))) ⌝ }
+    ensures { λ r. ⌜ totals r (now (total .exit)) ≡ countsBy flags (now (total .entry)) (integer debug 16 (pos x)) ⌝ }
 {
     if flags >= 12 {
         return Answer::WrongCall.number();
@@ -85,7 +83,7 @@ pub extern "C" fn single_count_u16_debug(total: &mut usize, x: u16, flags: u64) 
 // Counts a u32 in decimal.
 #[no_mangle]
 pub extern "C" fn single_count_u32_display(total: &mut usize, x: u32) -> u8
-    ensures { λ r. ⌜ to (counting (now (total .exit))) [] r ≡ valueOut (from (now (total .entry))) [] defaultFlags (integer display 32 (pos x)) ⌝ }
+    ensures { λ r. ⌜ totals r (now (total .exit)) ≡ counts (now (total .entry)) (integer display 32 (pos x)) ⌝ }
 {
     add(total, compute_display_len_u32(x))
 }
@@ -93,7 +91,7 @@ pub extern "C" fn single_count_u32_display(total: &mut usize, x: u32) -> u8
 // Counts a u32 in the form that the flags say.
 #[no_mangle]
 pub extern "C" fn single_count_u32_debug(total: &mut usize, x: u32, flags: u64) -> u8
-    ensures { λ r. ⌜ to (counting (now (total .exit))) [] r ≡ byFlags flags (wrongFlags (counting (now (total .entry))) []) (λ f. valueOut (from (now (total .entry))) [] f (integer debug 32 (pos x))) ⌝ }
+    ensures { λ r. ⌜ totals r (now (total .exit)) ≡ countsBy flags (now (total .entry)) (integer debug 32 (pos x)) ⌝ }
 {
     if flags >= 12 {
         return Answer::WrongCall.number();
@@ -104,7 +102,7 @@ pub extern "C" fn single_count_u32_debug(total: &mut usize, x: u32, flags: u64) 
 // Counts a u64 in decimal.
 #[no_mangle]
 pub extern "C" fn single_count_u64_display(total: &mut usize, x: u64) -> u8
-    ensures { λ r. ⌜ to (counting (now (total .exit))) [] r ≡ valueOut (from (now (total .entry))) [] defaultFlags (integer display 64 (pos x)) ⌝ }
+    ensures { λ r. ⌜ totals r (now (total .exit)) ≡ counts (now (total .entry)) (integer display 64 (pos x)) ⌝ }
 {
     add(total, compute_display_len_u64(x))
 }
@@ -112,7 +110,7 @@ pub extern "C" fn single_count_u64_display(total: &mut usize, x: u64) -> u8
 // Counts a u64 in the form that the flags say.
 #[no_mangle]
 pub extern "C" fn single_count_u64_debug(total: &mut usize, x: u64, flags: u64) -> u8
-    ensures { λ r. ⌜ to (counting (now (total .exit))) [] r ≡ byFlags flags (wrongFlags (counting (now (total .entry))) []) (λ f. valueOut (from (now (total .entry))) [] f (integer debug 64 (pos x))) ⌝ }
+    ensures { λ r. ⌜ totals r (now (total .exit)) ≡ countsBy flags (now (total .entry)) (integer debug 64 (pos x)) ⌝ }
 {
     if flags >= 12 {
         return Answer::WrongCall.number();
@@ -123,7 +121,7 @@ pub extern "C" fn single_count_u64_debug(total: &mut usize, x: u64, flags: u64) 
 // Counts an i8 in decimal.
 #[no_mangle]
 pub extern "C" fn single_count_i8_display(total: &mut usize, x: i8) -> u8
-    ensures { λ r. ⌜ to (counting (now (total .exit))) [] r ≡ valueOut (from (now (total .entry))) [] defaultFlags (integer display 8 x) ⌝ }
+    ensures { λ r. ⌜ totals r (now (total .exit)) ≡ counts (now (total .entry)) (integer display 8 x) ⌝ }
 {
     add(total, compute_display_len_i8(x))
 }
@@ -131,7 +129,7 @@ pub extern "C" fn single_count_i8_display(total: &mut usize, x: i8) -> u8
 // Counts an i8 in the form that the flags say.
 #[no_mangle]
 pub extern "C" fn single_count_i8_debug(total: &mut usize, x: i8, flags: u64) -> u8
-    ensures { λ r. ⌜ to (counting (now (total .exit))) [] r ≡ byFlags flags (wrongFlags (counting (now (total .entry))) []) (λ f. valueOut (from (now (total .entry))) [] f (integer debug 8 x)) ⌝ }
+    ensures { λ r. ⌜ totals r (now (total .exit)) ≡ countsBy flags (now (total .entry)) (integer debug 8 x) ⌝ }
 {
     if flags >= 12 {
         return Answer::WrongCall.number();
@@ -142,7 +140,7 @@ pub extern "C" fn single_count_i8_debug(total: &mut usize, x: i8, flags: u64) ->
 // Counts an i16 in decimal.
 #[no_mangle]
 pub extern "C" fn single_count_i16_display(total: &mut usize, x: i16) -> u8
-    ensures { λ r. ⌜ to (counting (now (total .exit))) [] r ≡ valueOut (from (now (total .entry))) [] defaultFlags (integer display 16 x) ⌝ }
+    ensures { λ r. ⌜ totals r (now (total .exit)) ≡ counts (now (total .entry)) (integer display 16 x) ⌝ }
 {
     add(total, compute_display_len_i16(x))
 }
@@ -150,7 +148,7 @@ pub extern "C" fn single_count_i16_display(total: &mut usize, x: i16) -> u8
 // Counts an i16 in the form that the flags say.
 #[no_mangle]
 pub extern "C" fn single_count_i16_debug(total: &mut usize, x: i16, flags: u64) -> u8
-    ensures { λ r. ⌜ to (counting (now (total .exit))) [] r ≡ byFlags flags (wrongFlags (counting (now (total .entry))) []) (λ f. valueOut (from (now (total .entry))) [] f (integer debug 16 x)) ⌝ }
+    ensures { λ r. ⌜ totals r (now (total .exit)) ≡ countsBy flags (now (total .entry)) (integer debug 16 x) ⌝ }
 {
     if flags >= 12 {
         return Answer::WrongCall.number();
@@ -161,7 +159,7 @@ pub extern "C" fn single_count_i16_debug(total: &mut usize, x: i16, flags: u64) 
 // Counts an i32 in decimal.
 #[no_mangle]
 pub extern "C" fn single_count_i32_display(total: &mut usize, x: i32) -> u8
-    ensures { λ r. ⌜ to (counting (now (total .exit))) [] r ≡ valueOut (from (now (total .entry))) [] defaultFlags (integer display 32 x) ⌝ }
+    ensures { λ r. ⌜ totals r (now (total .exit)) ≡ counts (now (total .entry)) (integer display 32 x) ⌝ }
 {
     add(total, compute_display_len_i32(x))
 }
@@ -169,7 +167,7 @@ pub extern "C" fn single_count_i32_display(total: &mut usize, x: i32) -> u8
 // Counts an i32 in the form that the flags say.
 #[no_mangle]
 pub extern "C" fn single_count_i32_debug(total: &mut usize, x: i32, flags: u64) -> u8
-    ensures { λ r. ⌜ to (counting (now (total .exit))) [] r ≡ byFlags flags (wrongFlags (counting (now (total .entry))) []) (λ f. valueOut (from (now (total .entry))) [] f (integer debug 32 x)) ⌝ }
+    ensures { λ r. ⌜ totals r (now (total .exit)) ≡ countsBy flags (now (total .entry)) (integer debug 32 x) ⌝ }
 {
     if flags >= 12 {
         return Answer::WrongCall.number();
@@ -180,7 +178,7 @@ pub extern "C" fn single_count_i32_debug(total: &mut usize, x: i32, flags: u64) 
 // Counts an i64 in decimal.
 #[no_mangle]
 pub extern "C" fn single_count_i64_display(total: &mut usize, x: i64) -> u8
-    ensures { λ r. ⌜ to (counting (now (total .exit))) [] r ≡ valueOut (from (now (total .entry))) [] defaultFlags (integer display 64 x) ⌝ }
+    ensures { λ r. ⌜ totals r (now (total .exit)) ≡ counts (now (total .entry)) (integer display 64 x) ⌝ }
 {
     add(total, compute_display_len_i64(x))
 }
@@ -188,7 +186,7 @@ pub extern "C" fn single_count_i64_display(total: &mut usize, x: i64) -> u8
 // Counts an i64 in the form that the flags say.
 #[no_mangle]
 pub extern "C" fn single_count_i64_debug(total: &mut usize, x: i64, flags: u64) -> u8
-    ensures { λ r. ⌜ to (counting (now (total .exit))) [] r ≡ byFlags flags (wrongFlags (counting (now (total .entry))) []) (λ f. valueOut (from (now (total .entry))) [] f (integer debug 64 x)) ⌝ }
+    ensures { λ r. ⌜ totals r (now (total .exit)) ≡ countsBy flags (now (total .entry)) (integer debug 64 x) ⌝ }
 {
     if flags >= 12 {
         return Answer::WrongCall.number();
@@ -199,7 +197,7 @@ pub extern "C" fn single_count_i64_debug(total: &mut usize, x: i64, flags: u64) 
 // Counts a character.
 #[no_mangle]
 pub extern "C" fn single_count_char(total: &mut usize, c: u32) -> u8
-    ensures { λ r. ⌜ to (counting (now (total .exit))) [] r ≡ valueOut (from (now (total .entry))) [] defaultFlags (char display c) ⌝ }
+    ensures { λ r. ⌜ totals r (now (total .exit)) ≡ counts (now (total .entry)) (char display c) ⌝ }
 {
     let fault = char_fault(c);
     if !fault.is_done() {
@@ -212,7 +210,7 @@ pub extern "C" fn single_count_char(total: &mut usize, c: u32) -> u8
 // Counts a character, quoted.
 #[no_mangle]
 pub extern "C" fn single_count_char_debug(total: &mut usize, c: u32) -> u8
-    ensures { λ r. ⌜ to (counting (now (total .exit))) [] r ≡ valueOut (from (now (total .entry))) [] defaultFlags (char debug c) ⌝ }
+    ensures { λ r. ⌜ totals r (now (total .exit)) ≡ counts (now (total .entry)) (char debug c) ⌝ }
 {
     let fault = char_fault(c);
     if !fault.is_done() {
@@ -225,7 +223,7 @@ pub extern "C" fn single_count_char_debug(total: &mut usize, c: u32) -> u8
 // Counts a string.
 #[no_mangle]
 pub extern "C" fn single_count_str(total: &mut usize, s: &[u8]) -> u8
-    ensures { λ r. ⌜ to (counting (now (total .exit))) [] r ≡ valueOut (from (now (total .entry))) [] defaultFlags (str display (now (s .entry)) (whole (now (s .entry)))) ⌝ }
+    ensures { λ r. ⌜ totals r (now (total .exit)) ≡ counts (now (total .entry)) (entire (str display) (now (s .entry))) ⌝ }
 {
     let fault = str_fault(s);
     if !fault.is_done() {
@@ -237,7 +235,7 @@ pub extern "C" fn single_count_str(total: &mut usize, s: &[u8]) -> u8
 // Counts a string, quoted.
 #[no_mangle]
 pub extern "C" fn single_count_str_debug(total: &mut usize, s: &[u8]) -> u8
-    ensures { λ r. ⌜ to (counting (now (total .exit))) [] r ≡ valueOut (from (now (total .entry))) [] defaultFlags (str debug (now (s .entry)) (whole (now (s .entry)))) ⌝ }
+    ensures { λ r. ⌜ totals r (now (total .exit)) ≡ counts (now (total .entry)) (entire (str debug) (now (s .entry))) ⌝ }
 {
     let fault = str_fault(s);
     if !fault.is_done() {

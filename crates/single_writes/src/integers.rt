@@ -2,13 +2,9 @@
 // numbers. Flags that are no number below 12 are refused with 8; then nothing changes.
 ghost use mathlib.Core.Path.{_≡_};
 ghost use lib.IntN.{pos};
-ghost use Rattle.error.specs.declared.Answer.the-variants.{WrongCall};
-ghost use Rattle.error.specs.Answer.{numberOf};
-ghost use Rattle.pwrapper.specs.Number.{hexText, binText};
 ghost use Rattle.pargument.specs.declared.Integer as parts;
-ghost use Rattle.pargument.specs.Integer.{integerOf, integerDisplay, integerBits, startOf, arrayOf};
-ghost use Rattle.single_writes.specs.ByFlags.{byFlags};
-ghost use Rattle.single_writes.specs.Laid.{Laid, laid};
+ghost use Rattle.pargument.specs.Integer.{integerOf, integerDisplay, startOf, arrayOf};
+ghost use Rattle.single_writes.specs.Laid.{ofParts, laidIn, laidBy, inBinary, inHexadecimal};
 use error::Answer;
 use formatting::flags_of;
 use pargument::Integer;
@@ -23,7 +19,7 @@ use pargument::to_integer_u64;
 
 // Leaves the absolute value and the mask in their places, and gives whether the integer is negative.
 fn leave(i: Integer, unsigned: &mut u64, mask: &mut u64) -> bool
-    ensures { λ r. ⌜ _≡_ {A = parts.Integer} (record { «is_negative» = r; unsigned = now (unsigned .exit); mask = now (mask .exit) }) i ⌝ }
+    ensures { λ r. ⌜ ofParts r (now (unsigned .exit)) (now (mask .exit)) ≡ i ⌝ }
 {
     *unsigned = i.unsigned;
     *mask = i.mask;
@@ -33,7 +29,7 @@ fn leave(i: Integer, unsigned: &mut u64, mask: &mut u64) -> bool
 // The parts of a u8: whether it is negative, its absolute value, and a mask of the bits of its type.
 #[no_mangle]
 pub extern "C" fn single_to_integer_u8(x: u8, unsigned: &mut u64, mask: &mut u64) -> bool
-    ensures { λ r. ⌜ _≡_ {A = parts.Integer} (record { «is_negative» = r; unsigned = now (unsigned .exit); mask = now (mask .exit) }) (integerOf 8 (pos x)) ⌝ }
+    ensures { λ r. ⌜ ofParts r (now (unsigned .exit)) (now (mask .exit)) ≡ integerOf 8 (pos x) ⌝ }
 {
     leave(to_integer_u8(x), unsigned, mask)
 }
@@ -41,7 +37,7 @@ pub extern "C" fn single_to_integer_u8(x: u8, unsigned: &mut u64, mask: &mut u64
 // The parts of a u16: whether it is negative, its absolute value, and a mask of the bits of its type.
 #[no_mangle]
 pub extern "C" fn single_to_integer_u16(x: u16, unsigned: &mut u64, mask: &mut u64) -> bool
-    ensures { λ r. ⌜ _≡_ {A = parts.Integer} (record { «is_negative» = r; unsigned = now (unsigned .exit); mask = now (mask .exit) }) (integerOf 16 (pos x)) ⌝ }
+    ensures { λ r. ⌜ ofParts r (now (unsigned .exit)) (now (mask .exit)) ≡ integerOf 16 (pos x) ⌝ }
 {
     leave(to_integer_u16(x), unsigned, mask)
 }
@@ -49,7 +45,7 @@ pub extern "C" fn single_to_integer_u16(x: u16, unsigned: &mut u64, mask: &mut u
 // The parts of a u32: whether it is negative, its absolute value, and a mask of the bits of its type.
 #[no_mangle]
 pub extern "C" fn single_to_integer_u32(x: u32, unsigned: &mut u64, mask: &mut u64) -> bool
-    ensures { λ r. ⌜ _≡_ {A = parts.Integer} (record { «is_negative» = r; unsigned = now (unsigned .exit); mask = now (mask .exit) }) (integerOf 32 (pos x)) ⌝ }
+    ensures { λ r. ⌜ ofParts r (now (unsigned .exit)) (now (mask .exit)) ≡ integerOf 32 (pos x) ⌝ }
 {
     leave(to_integer_u32(x), unsigned, mask)
 }
@@ -57,7 +53,7 @@ pub extern "C" fn single_to_integer_u32(x: u32, unsigned: &mut u64, mask: &mut u
 // The parts of a u64: whether it is negative, its absolute value, and a mask of the bits of its type.
 #[no_mangle]
 pub extern "C" fn single_to_integer_u64(x: u64, unsigned: &mut u64, mask: &mut u64) -> bool
-    ensures { λ r. ⌜ _≡_ {A = parts.Integer} (record { «is_negative» = r; unsigned = now (unsigned .exit); mask = now (mask .exit) }) (integerOf 64 (pos x)) ⌝ }
+    ensures { λ r. ⌜ ofParts r (now (unsigned .exit)) (now (mask .exit)) ≡ integerOf 64 (pos x) ⌝ }
 {
     leave(to_integer_u64(x), unsigned, mask)
 }
@@ -65,7 +61,7 @@ pub extern "C" fn single_to_integer_u64(x: u64, unsigned: &mut u64, mask: &mut u
 // The parts of an i8: whether it is negative, its absolute value, and a mask of the bits of its type.
 #[no_mangle]
 pub extern "C" fn single_to_integer_i8(x: i8, unsigned: &mut u64, mask: &mut u64) -> bool
-    ensures { λ r. ⌜ _≡_ {A = parts.Integer} (record { «is_negative» = r; unsigned = now (unsigned .exit); mask = now (mask .exit) }) (integerOf 8 x) ⌝ }
+    ensures { λ r. ⌜ ofParts r (now (unsigned .exit)) (now (mask .exit)) ≡ integerOf 8 x ⌝ }
 {
     leave(to_integer_i8(x), unsigned, mask)
 }
@@ -73,7 +69,7 @@ pub extern "C" fn single_to_integer_i8(x: i8, unsigned: &mut u64, mask: &mut u64
 // The parts of an i16: whether it is negative, its absolute value, and a mask of the bits of its type.
 #[no_mangle]
 pub extern "C" fn single_to_integer_i16(x: i16, unsigned: &mut u64, mask: &mut u64) -> bool
-    ensures { λ r. ⌜ _≡_ {A = parts.Integer} (record { «is_negative» = r; unsigned = now (unsigned .exit); mask = now (mask .exit) }) (integerOf 16 x) ⌝ }
+    ensures { λ r. ⌜ ofParts r (now (unsigned .exit)) (now (mask .exit)) ≡ integerOf 16 x ⌝ }
 {
     leave(to_integer_i16(x), unsigned, mask)
 }
@@ -81,7 +77,7 @@ pub extern "C" fn single_to_integer_i16(x: i16, unsigned: &mut u64, mask: &mut u
 // The parts of an i32: whether it is negative, its absolute value, and a mask of the bits of its type.
 #[no_mangle]
 pub extern "C" fn single_to_integer_i32(x: i32, unsigned: &mut u64, mask: &mut u64) -> bool
-    ensures { λ r. ⌜ _≡_ {A = parts.Integer} (record { «is_negative» = r; unsigned = now (unsigned .exit); mask = now (mask .exit) }) (integerOf 32 x) ⌝ }
+    ensures { λ r. ⌜ ofParts r (now (unsigned .exit)) (now (mask .exit)) ≡ integerOf 32 x ⌝ }
 {
     leave(to_integer_i32(x), unsigned, mask)
 }
@@ -89,7 +85,7 @@ pub extern "C" fn single_to_integer_i32(x: i32, unsigned: &mut u64, mask: &mut u
 // The parts of an i64: whether it is negative, its absolute value, and a mask of the bits of its type.
 #[no_mangle]
 pub extern "C" fn single_to_integer_i64(x: i64, unsigned: &mut u64, mask: &mut u64) -> bool
-    ensures { λ r. ⌜ _≡_ {A = parts.Integer} (record { «is_negative» = r; unsigned = now (unsigned .exit); mask = now (mask .exit) }) (integerOf 64 x) ⌝ }
+    ensures { λ r. ⌜ ofParts r (now (unsigned .exit)) (now (mask .exit)) ≡ integerOf 64 x ⌝ }
 {
     leave(to_integer_i64(x), unsigned, mask)
 }
@@ -104,7 +100,8 @@ pub extern "C" fn single_integer_binary(
     start: &mut usize,
     array: &mut [u8; 66],
 ) -> u8
-    ensures { λ r. ⌜ _≡_ {A = Laid} (record { answer = r; start = now (start .exit); array = now (array .exit) }) (byFlags flags (record { answer = numberOf WrongCall; start = now (start .entry); array = now (array .entry) }) (λ f. laid 66 (binText f (integerBits (record { «is_negative» = «is_negative»; unsigned = unsigned; mask = mask }))))) ⌝ }
+    ensures { λ r. ⌜ laidIn r (now (start .exit)) (now (array .exit))
+        ≡ laidBy flags (now (start .entry)) (now (array .entry)) (inBinary (ofParts «is_negative» unsigned mask)) ⌝ }
 {
     if flags >= 12 {
         return Answer::WrongCall.number();
@@ -131,7 +128,8 @@ pub extern "C" fn single_integer_hexadecimal(
     start: &mut usize,
     array: &mut [u8; 18],
 ) -> u8
-    ensures { λ r. ⌜ _≡_ {A = Laid} (record { answer = r; start = now (start .exit); array = now (array .exit) }) (byFlags flags (record { answer = numberOf WrongCall; start = now (start .entry); array = now (array .entry) }) (λ f. laid 18 (hexText f (integerBits (record { «is_negative» = «is_negative»; unsigned = unsigned; mask = mask }))))) ⌝ }
+    ensures { λ r. ⌜ laidIn r (now (start .exit)) (now (array .exit))
+        ≡ laidBy flags (now (start .entry)) (now (array .entry)) (inHexadecimal (ofParts «is_negative» unsigned mask)) ⌝ }
 {
     if flags >= 12 {
         return Answer::WrongCall.number();
@@ -156,7 +154,8 @@ pub extern "C" fn single_integer_display(
     mask: u64,
     array: &mut [u8; 21],
 ) -> usize
-    ensures { λ r. ⌜ (r ≡ startOf 21 (integerDisplay (record { «is_negative» = «is_negative»; unsigned = unsigned; mask = mask }))) × (now (array .exit) ≡ arrayOf 21 (integerDisplay (record { «is_negative» = «is_negative»; unsigned = unsigned; mask = mask }))) ⌝ }
+    ensures { λ r. ⌜ r ≡ startOf 21 (integerDisplay (ofParts «is_negative» unsigned mask)) ⌝ }
+    ensures { λ _. ⌜ now (array .exit) ≡ arrayOf 21 (integerDisplay (ofParts «is_negative» unsigned mask)) ⌝ }
 {
     let i = Integer {
         is_negative,

@@ -12,13 +12,11 @@ ghost use lib.IntN.{pos};
 ghost use lib.ListN.{length};
 ghost use Rattle.error.specs.declared.Answer.the-variants.{WrongCall};
 ghost use Rattle.error.specs.Answer.{numberOf};
-ghost use Rattle.formatting.specs.Flags.{defaultFlags};
-ghost use Rattle.str_writer.specs.Value.{integer, char, str, ascii, repeated, display, debug, whole};
-ghost use Rattle.str_writer.specs.Write.{outcome, write};
+ghost use Rattle.str_writer.specs.Value.{integer, char, str, ascii, repeated, display, debug};
 ghost use Rattle.str_writer.specs.Truncate.{truncated, truncatedUtf8};
 ghost use Rattle.calls.specs.Call.{hold};
-ghost use Rattle.calls.specs.Model.{to, wrote, writing, beyond};
-ghost use Rattle.single_writes.specs.ByFlags.{byFlags, wrongFlags};
+ghost use Rattle.calls.specs.Model.{writing, beyond};
+ghost use Rattle.single_writes.specs.Single.{entire, between, gives, writes, writesBy, keeps};
 use error::Answer;
 use formatting::flags_of;
 use integer_writes::write_i8_debug;
@@ -67,7 +65,7 @@ fn no_flags(len: usize, cursor: usize) -> u8
 
 // Leaves the cursor in its place, and gives the answer's number.
 fn answered(cursor: &mut usize, w: Written) -> u8
-    ensures { λ r. ⌜ ((b : List ℕ) → to (writing (now (cursor .exit))) b r ≡ wrote (outcome w b)) ⌝ }
+    ensures { λ r. ⌜ ((b : List ℕ) → gives r (now (cursor .exit)) b ≡ keeps b w) ⌝ }
 {
     *cursor = w.at;
     let answer = w.answer;
@@ -77,7 +75,8 @@ fn answered(cursor: &mut usize, w: Written) -> u8
 // Writes a string at the cursor.
 #[no_mangle]
 pub extern "C" fn single_write_str(buf: &mut [u8], cursor: &mut usize, s: &[u8]) -> u8
-    ensures { λ r. ⌜ to (writing (now (cursor .exit))) (now (buf .exit)) r ≡ wrote (write defaultFlags (now (buf .entry)) (now (cursor .entry)) (str display (now (s .entry)) (whole (now (s .entry))))) ⌝ }
+    ensures { λ r. ⌜ gives r (now (cursor .exit)) (now (buf .exit))
+        ≡ writes (now (buf .entry)) (now (cursor .entry)) (entire (str display) (now (s .entry))) ⌝ }
 {
     let w = write_str(buf, *cursor, s);
     answered(cursor, w)
@@ -92,7 +91,8 @@ pub extern "C" fn single_write_str_range(
     start: usize,
     end: usize,
 ) -> u8
-    ensures { λ r. ⌜ to (writing (now (cursor .exit))) (now (buf .exit)) r ≡ wrote (write defaultFlags (now (buf .entry)) (now (cursor .entry)) (str display (now (s .entry)) (record { start = start; end = end }))) ⌝ }
+    ensures { λ r. ⌜ gives r (now (cursor .exit)) (now (buf .exit))
+        ≡ writes (now (buf .entry)) (now (cursor .entry)) (between (str display) (now (s .entry)) start end) ⌝ }
 {
     let range = Range { start, end };
     let w = write_str_range(buf, *cursor, s, range);
@@ -102,7 +102,7 @@ pub extern "C" fn single_write_str_range(
 // Writes a string, quoted, at the cursor.
 #[no_mangle]
 pub extern "C" fn single_write_str_debug(buf: &mut [u8], cursor: &mut usize, s: &[u8]) -> u8
-    ensures { λ r. ⌜ to (writing (now (cursor .exit))) (now (buf .exit)) r ≡ wrote (write defaultFlags (now (buf .entry)) (now (cursor .entry)) (str debug (now (s .entry)) (whole (now (s .entry))))) ⌝ }
+    ensures { λ r. ⌜ gives r (now (cursor .exit)) (now (buf .exit)) ≡ writes (now (buf .entry)) (now (cursor .entry)) (entire (str debug) (now (s .entry))) ⌝ }
 {
     let w = write_str_debug(buf, *cursor, s);
     answered(cursor, w)
@@ -117,7 +117,8 @@ pub extern "C" fn single_write_str_range_debug(
     start: usize,
     end: usize,
 ) -> u8
-    ensures { λ r. ⌜ to (writing (now (cursor .exit))) (now (buf .exit)) r ≡ wrote (write defaultFlags (now (buf .entry)) (now (cursor .entry)) (str debug (now (s .entry)) (record { start = start; end = end }))) ⌝ }
+    ensures { λ r. ⌜ gives r (now (cursor .exit)) (now (buf .exit))
+        ≡ writes (now (buf .entry)) (now (cursor .entry)) (between (str debug) (now (s .entry)) start end) ⌝ }
 {
     let range = Range { start, end };
     let w = write_str_range_debug(buf, *cursor, s, range);
@@ -127,7 +128,8 @@ pub extern "C" fn single_write_str_range_debug(
 // Writes ASCII text at the cursor.
 #[no_mangle]
 pub extern "C" fn single_write_ascii(buf: &mut [u8], cursor: &mut usize, s: &[u8]) -> u8
-    ensures { λ r. ⌜ to (writing (now (cursor .exit))) (now (buf .exit)) r ≡ wrote (write defaultFlags (now (buf .entry)) (now (cursor .entry)) (ascii display (now (s .entry)) (whole (now (s .entry))))) ⌝ }
+    ensures { λ r. ⌜ gives r (now (cursor .exit)) (now (buf .exit))
+        ≡ writes (now (buf .entry)) (now (cursor .entry)) (entire (ascii display) (now (s .entry))) ⌝ }
 {
     let w = write_ascii(buf, *cursor, s);
     answered(cursor, w)
@@ -142,7 +144,8 @@ pub extern "C" fn single_write_ascii_range(
     start: usize,
     end: usize,
 ) -> u8
-    ensures { λ r. ⌜ to (writing (now (cursor .exit))) (now (buf .exit)) r ≡ wrote (write defaultFlags (now (buf .entry)) (now (cursor .entry)) (ascii display (now (s .entry)) (record { start = start; end = end }))) ⌝ }
+    ensures { λ r. ⌜ gives r (now (cursor .exit)) (now (buf .exit))
+        ≡ writes (now (buf .entry)) (now (cursor .entry)) (between (ascii display) (now (s .entry)) start end) ⌝ }
 {
     let range = Range { start, end };
     let w = write_ascii_range(buf, *cursor, s, range);
@@ -152,7 +155,8 @@ pub extern "C" fn single_write_ascii_range(
 // Writes ASCII text, quoted, at the cursor.
 #[no_mangle]
 pub extern "C" fn single_write_ascii_debug(buf: &mut [u8], cursor: &mut usize, s: &[u8]) -> u8
-    ensures { λ r. ⌜ to (writing (now (cursor .exit))) (now (buf .exit)) r ≡ wrote (write defaultFlags (now (buf .entry)) (now (cursor .entry)) (ascii debug (now (s .entry)) (whole (now (s .entry))))) ⌝ }
+    ensures { λ r. ⌜ gives r (now (cursor .exit)) (now (buf .exit))
+        ≡ writes (now (buf .entry)) (now (cursor .entry)) (entire (ascii debug) (now (s .entry))) ⌝ }
 {
     let w = write_ascii_debug(buf, *cursor, s);
     answered(cursor, w)
@@ -167,7 +171,8 @@ pub extern "C" fn single_write_ascii_range_debug(
     start: usize,
     end: usize,
 ) -> u8
-    ensures { λ r. ⌜ to (writing (now (cursor .exit))) (now (buf .exit)) r ≡ wrote (write defaultFlags (now (buf .entry)) (now (cursor .entry)) (ascii debug (now (s .entry)) (record { start = start; end = end }))) ⌝ }
+    ensures { λ r. ⌜ gives r (now (cursor .exit)) (now (buf .exit))
+        ≡ writes (now (buf .entry)) (now (cursor .entry)) (between (ascii debug) (now (s .entry)) start end) ⌝ }
 {
     let range = Range { start, end };
     let w = write_ascii_range_debug(buf, *cursor, s, range);
@@ -182,7 +187,7 @@ pub extern "C" fn single_write_ascii_repeated(
     c: u8,
     n: usize,
 ) -> u8
-    ensures { λ r. ⌜ to (writing (now (cursor .exit))) (now (buf .exit)) r ≡ wrote (write defaultFlags (now (buf .entry)) (now (cursor .entry)) (repeated c n)) ⌝ }
+    ensures { λ r. ⌜ gives r (now (cursor .exit)) (now (buf .exit)) ≡ writes (now (buf .entry)) (now (cursor .entry)) (repeated c n) ⌝ }
 {
     let w = write_ascii_repeated(buf, *cursor, c, n);
     answered(cursor, w)
@@ -191,7 +196,7 @@ pub extern "C" fn single_write_ascii_repeated(
 // Writes a character at the cursor.
 #[no_mangle]
 pub extern "C" fn single_write_char(buf: &mut [u8], cursor: &mut usize, c: u32) -> u8
-    ensures { λ r. ⌜ to (writing (now (cursor .exit))) (now (buf .exit)) r ≡ wrote (write defaultFlags (now (buf .entry)) (now (cursor .entry)) (char display c)) ⌝ }
+    ensures { λ r. ⌜ gives r (now (cursor .exit)) (now (buf .exit)) ≡ writes (now (buf .entry)) (now (cursor .entry)) (char display c) ⌝ }
 {
     let w = write_char(buf, *cursor, c);
     answered(cursor, w)
@@ -200,7 +205,7 @@ pub extern "C" fn single_write_char(buf: &mut [u8], cursor: &mut usize, c: u32) 
 // Writes a character, quoted, at the cursor.
 #[no_mangle]
 pub extern "C" fn single_write_char_debug(buf: &mut [u8], cursor: &mut usize, c: u32) -> u8
-    ensures { λ r. ⌜ to (writing (now (cursor .exit))) (now (buf .exit)) r ≡ wrote (write defaultFlags (now (buf .entry)) (now (cursor .entry)) (char debug c)) ⌝ }
+    ensures { λ r. ⌜ gives r (now (cursor .exit)) (now (buf .exit)) ≡ writes (now (buf .entry)) (now (cursor .entry)) (char debug c) ⌝ }
 {
     let w = write_char_debug(buf, *cursor, c);
     answered(cursor, w)
@@ -209,7 +214,7 @@ pub extern "C" fn single_write_char_debug(buf: &mut [u8], cursor: &mut usize, c:
 // Writes a u8 at the cursor, in decimal.
 #[no_mangle]
 pub extern "C" fn single_write_u8_display(buf: &mut [u8], cursor: &mut usize, x: u8) -> u8
-    ensures { λ r. ⌜ to (writing (now (cursor .exit))) (now (buf .exit)) r ≡ wrote (write defaultFlags (now (buf .entry)) (now (cursor .entry)) (integer display 8 (pos x))) ⌝ }
+    ensures { λ r. ⌜ gives r (now (cursor .exit)) (now (buf .exit)) ≡ writes (now (buf .entry)) (now (cursor .entry)) (integer display 8 (pos x)) ⌝ }
 {
     let w = write_u8_display(buf, *cursor, x);
     answered(cursor, w)
@@ -218,7 +223,7 @@ pub extern "C" fn single_write_u8_display(buf: &mut [u8], cursor: &mut usize, x:
 // Writes a u8 at the cursor, in the form that the flags say.
 #[no_mangle]
 pub extern "C" fn single_write_u8_debug(buf: &mut [u8], cursor: &mut usize, x: u8, flags: u64) -> u8
-    ensures { λ r. ⌜ to (writing (now (cursor .exit))) (now (buf .exit)) r ≡ byFlags flags (wrongFlags (writing (now (cursor .entry))) (now (buf .entry))) (λ f. wrote (write f (now (buf .entry)) (now (cursor .entry)) (integer debug 8 (pos x)))) ⌝ }
+    ensures { λ r. ⌜ gives r (now (cursor .exit)) (now (buf .exit)) ≡ writesBy flags (now (buf .entry)) (now (cursor .entry)) (integer debug 8 (pos x)) ⌝ }
 {
     if flags >= 12 {
         return no_flags(buf.len(), *cursor);
@@ -230,7 +235,7 @@ pub extern "C" fn single_write_u8_debug(buf: &mut [u8], cursor: &mut usize, x: u
 // Writes a u16 at the cursor, in decimal.
 #[no_mangle]
 pub extern "C" fn single_write_u16_display(buf: &mut [u8], cursor: &mut usize, x: u16) -> u8
-    ensures { λ r. ⌜ to (writing (now (cursor .exit))) (now (buf .exit)) r ≡ wrote (write defaultFlags (now (buf .entry)) (now (cursor .entry)) (integer display 16 (pos x))) ⌝ }
+    ensures { λ r. ⌜ gives r (now (cursor .exit)) (now (buf .exit)) ≡ writes (now (buf .entry)) (now (cursor .entry)) (integer display 16 (pos x)) ⌝ }
 {
     let w = write_u16_display(buf, *cursor, x);
     answered(cursor, w)
@@ -244,7 +249,7 @@ pub extern "C" fn single_write_u16_debug(
     x: u16,
     flags: u64,
 ) -> u8
-    ensures { λ r. ⌜ to (writing (now (cursor .exit))) (now (buf .exit)) r ≡ byFlags flags (wrongFlags (writing (now (cursor .entry))) (now (buf .entry))) (λ f. wrote (write f (now (buf .entry)) (now (cursor .entry)) (integer debug 16 (pos x)))) ⌝ }
+    ensures { λ r. ⌜ gives r (now (cursor .exit)) (now (buf .exit)) ≡ writesBy flags (now (buf .entry)) (now (cursor .entry)) (integer debug 16 (pos x)) ⌝ }
 {
     if flags >= 12 {
         return no_flags(buf.len(), *cursor);
@@ -256,7 +261,7 @@ pub extern "C" fn single_write_u16_debug(
 // Writes a u32 at the cursor, in decimal.
 #[no_mangle]
 pub extern "C" fn single_write_u32_display(buf: &mut [u8], cursor: &mut usize, x: u32) -> u8
-    ensures { λ r. ⌜ to (writing (now (cursor .exit))) (now (buf .exit)) r ≡ wrote (write defaultFlags (now (buf .entry)) (now (cursor .entry)) (integer display 32 (pos x))) ⌝ }
+    ensures { λ r. ⌜ gives r (now (cursor .exit)) (now (buf .exit)) ≡ writes (now (buf .entry)) (now (cursor .entry)) (integer display 32 (pos x)) ⌝ }
 {
     let w = write_u32_display(buf, *cursor, x);
     answered(cursor, w)
@@ -270,7 +275,7 @@ pub extern "C" fn single_write_u32_debug(
     x: u32,
     flags: u64,
 ) -> u8
-    ensures { λ r. ⌜ to (writing (now (cursor .exit))) (now (buf .exit)) r ≡ byFlags flags (wrongFlags (writing (now (cursor .entry))) (now (buf .entry))) (λ f. wrote (write f (now (buf .entry)) (now (cursor .entry)) (integer debug 32 (pos x)))) ⌝ }
+    ensures { λ r. ⌜ gives r (now (cursor .exit)) (now (buf .exit)) ≡ writesBy flags (now (buf .entry)) (now (cursor .entry)) (integer debug 32 (pos x)) ⌝ }
 {
     if flags >= 12 {
         return no_flags(buf.len(), *cursor);
@@ -282,7 +287,7 @@ pub extern "C" fn single_write_u32_debug(
 // Writes a u64 at the cursor, in decimal.
 #[no_mangle]
 pub extern "C" fn single_write_u64_display(buf: &mut [u8], cursor: &mut usize, x: u64) -> u8
-    ensures { λ r. ⌜ to (writing (now (cursor .exit))) (now (buf .exit)) r ≡ wrote (write defaultFlags (now (buf .entry)) (now (cursor .entry)) (integer display 64 (pos x))) ⌝ }
+    ensures { λ r. ⌜ gives r (now (cursor .exit)) (now (buf .exit)) ≡ writes (now (buf .entry)) (now (cursor .entry)) (integer display 64 (pos x)) ⌝ }
 {
     let w = write_u64_display(buf, *cursor, x);
     answered(cursor, w)
@@ -296,7 +301,7 @@ pub extern "C" fn single_write_u64_debug(
     x: u64,
     flags: u64,
 ) -> u8
-    ensures { λ r. ⌜ to (writing (now (cursor .exit))) (now (buf .exit)) r ≡ byFlags flags (wrongFlags (writing (now (cursor .entry))) (now (buf .entry))) (λ f. wrote (write f (now (buf .entry)) (now (cursor .entry)) (integer debug 64 (pos x)))) ⌝ }
+    ensures { λ r. ⌜ gives r (now (cursor .exit)) (now (buf .exit)) ≡ writesBy flags (now (buf .entry)) (now (cursor .entry)) (integer debug 64 (pos x)) ⌝ }
 {
     if flags >= 12 {
         return no_flags(buf.len(), *cursor);
@@ -308,7 +313,7 @@ pub extern "C" fn single_write_u64_debug(
 // Writes an i8 at the cursor, in decimal.
 #[no_mangle]
 pub extern "C" fn single_write_i8_display(buf: &mut [u8], cursor: &mut usize, x: i8) -> u8
-    ensures { λ r. ⌜ to (writing (now (cursor .exit))) (now (buf .exit)) r ≡ wrote (write defaultFlags (now (buf .entry)) (now (cursor .entry)) (integer display 8 x)) ⌝ }
+    ensures { λ r. ⌜ gives r (now (cursor .exit)) (now (buf .exit)) ≡ writes (now (buf .entry)) (now (cursor .entry)) (integer display 8 x) ⌝ }
 {
     let w = write_i8_display(buf, *cursor, x);
     answered(cursor, w)
@@ -317,7 +322,7 @@ pub extern "C" fn single_write_i8_display(buf: &mut [u8], cursor: &mut usize, x:
 // Writes an i8 at the cursor, in the form that the flags say.
 #[no_mangle]
 pub extern "C" fn single_write_i8_debug(buf: &mut [u8], cursor: &mut usize, x: i8, flags: u64) -> u8
-    ensures { λ r. ⌜ to (writing (now (cursor .exit))) (now (buf .exit)) r ≡ byFlags flags (wrongFlags (writing (now (cursor .entry))) (now (buf .entry))) (λ f. wrote (write f (now (buf .entry)) (now (cursor .entry)) (integer debug 8 x))) ⌝ }
+    ensures { λ r. ⌜ gives r (now (cursor .exit)) (now (buf .exit)) ≡ writesBy flags (now (buf .entry)) (now (cursor .entry)) (integer debug 8 x) ⌝ }
 {
     if flags >= 12 {
         return no_flags(buf.len(), *cursor);
@@ -329,7 +334,7 @@ pub extern "C" fn single_write_i8_debug(buf: &mut [u8], cursor: &mut usize, x: i
 // Writes an i16 at the cursor, in decimal.
 #[no_mangle]
 pub extern "C" fn single_write_i16_display(buf: &mut [u8], cursor: &mut usize, x: i16) -> u8
-    ensures { λ r. ⌜ to (writing (now (cursor .exit))) (now (buf .exit)) r ≡ wrote (write defaultFlags (now (buf .entry)) (now (cursor .entry)) (integer display 16 x)) ⌝ }
+    ensures { λ r. ⌜ gives r (now (cursor .exit)) (now (buf .exit)) ≡ writes (now (buf .entry)) (now (cursor .entry)) (integer display 16 x) ⌝ }
 {
     let w = write_i16_display(buf, *cursor, x);
     answered(cursor, w)
@@ -343,7 +348,7 @@ pub extern "C" fn single_write_i16_debug(
     x: i16,
     flags: u64,
 ) -> u8
-    ensures { λ r. ⌜ to (writing (now (cursor .exit))) (now (buf .exit)) r ≡ byFlags flags (wrongFlags (writing (now (cursor .entry))) (now (buf .entry))) (λ f. wrote (write f (now (buf .entry)) (now (cursor .entry)) (integer debug 16 x))) ⌝ }
+    ensures { λ r. ⌜ gives r (now (cursor .exit)) (now (buf .exit)) ≡ writesBy flags (now (buf .entry)) (now (cursor .entry)) (integer debug 16 x) ⌝ }
 {
     if flags >= 12 {
         return no_flags(buf.len(), *cursor);
@@ -355,7 +360,7 @@ pub extern "C" fn single_write_i16_debug(
 // Writes an i32 at the cursor, in decimal.
 #[no_mangle]
 pub extern "C" fn single_write_i32_display(buf: &mut [u8], cursor: &mut usize, x: i32) -> u8
-    ensures { λ r. ⌜ to (writing (now (cursor .exit))) (now (buf .exit)) r ≡ wrote (write defaultFlags (now (buf .entry)) (now (cursor .entry)) (integer display 32 x)) ⌝ }
+    ensures { λ r. ⌜ gives r (now (cursor .exit)) (now (buf .exit)) ≡ writes (now (buf .entry)) (now (cursor .entry)) (integer display 32 x) ⌝ }
 {
     let w = write_i32_display(buf, *cursor, x);
     answered(cursor, w)
@@ -369,7 +374,7 @@ pub extern "C" fn single_write_i32_debug(
     x: i32,
     flags: u64,
 ) -> u8
-    ensures { λ r. ⌜ to (writing (now (cursor .exit))) (now (buf .exit)) r ≡ byFlags flags (wrongFlags (writing (now (cursor .entry))) (now (buf .entry))) (λ f. wrote (write f (now (buf .entry)) (now (cursor .entry)) (integer debug 32 x))) ⌝ }
+    ensures { λ r. ⌜ gives r (now (cursor .exit)) (now (buf .exit)) ≡ writesBy flags (now (buf .entry)) (now (cursor .entry)) (integer debug 32 x) ⌝ }
 {
     if flags >= 12 {
         return no_flags(buf.len(), *cursor);
@@ -381,7 +386,7 @@ pub extern "C" fn single_write_i32_debug(
 // Writes an i64 at the cursor, in decimal.
 #[no_mangle]
 pub extern "C" fn single_write_i64_display(buf: &mut [u8], cursor: &mut usize, x: i64) -> u8
-    ensures { λ r. ⌜ to (writing (now (cursor .exit))) (now (buf .exit)) r ≡ wrote (write defaultFlags (now (buf .entry)) (now (cursor .entry)) (integer display 64 x)) ⌝ }
+    ensures { λ r. ⌜ gives r (now (cursor .exit)) (now (buf .exit)) ≡ writes (now (buf .entry)) (now (cursor .entry)) (integer display 64 x) ⌝ }
 {
     let w = write_i64_display(buf, *cursor, x);
     answered(cursor, w)
@@ -395,7 +400,7 @@ pub extern "C" fn single_write_i64_debug(
     x: i64,
     flags: u64,
 ) -> u8
-    ensures { λ r. ⌜ to (writing (now (cursor .exit))) (now (buf .exit)) r ≡ byFlags flags (wrongFlags (writing (now (cursor .entry))) (now (buf .entry))) (λ f. wrote (write f (now (buf .entry)) (now (cursor .entry)) (integer debug 64 x))) ⌝ }
+    ensures { λ r. ⌜ gives r (now (cursor .exit)) (now (buf .exit)) ≡ writesBy flags (now (buf .entry)) (now (cursor .entry)) (integer debug 64 x) ⌝ }
 {
     if flags >= 12 {
         return no_flags(buf.len(), *cursor);
@@ -407,7 +412,7 @@ pub extern "C" fn single_write_i64_debug(
 // Takes the cursor back to a length; one past the cursor changes nothing.
 #[no_mangle]
 pub extern "C" fn single_truncate(buf: &[u8], cursor: &mut usize, length: usize) -> u8
-    ensures { λ r. ⌜ to (writing (now (cursor .exit))) (now (buf .entry)) r ≡ wrote (outcome (truncated (now (buf .entry)) (now (cursor .entry)) length) (now (buf .entry))) ⌝ }
+    ensures { λ r. ⌜ gives r (now (cursor .exit)) (now (buf .entry)) ≡ keeps (now (buf .entry)) (truncated (now (buf .entry)) (now (cursor .entry)) length) ⌝ }
 {
     let w = truncate(buf, *cursor, length);
     answered(cursor, w)
@@ -416,7 +421,8 @@ pub extern "C" fn single_truncate(buf: &[u8], cursor: &mut usize, length: usize)
 // The same, refused with 3 where the length is inside a character.
 #[no_mangle]
 pub extern "C" fn single_truncate_utf8(buf: &[u8], cursor: &mut usize, length: usize) -> u8
-    ensures { λ r. ⌜ to (writing (now (cursor .exit))) (now (buf .entry)) r ≡ wrote (outcome (truncatedUtf8 (now (buf .entry)) (now (cursor .entry)) length) (now (buf .entry))) ⌝ }
+    ensures { λ r. ⌜ gives r (now (cursor .exit)) (now (buf .entry))
+        ≡ keeps (now (buf .entry)) (truncatedUtf8 (now (buf .entry)) (now (cursor .entry)) length) ⌝ }
 {
     let w = truncate_utf8(buf, *cursor, length);
     answered(cursor, w)
