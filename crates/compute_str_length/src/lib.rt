@@ -94,7 +94,8 @@ impl ComputeStrLength {
 
     // Counts one call of a formatter on from the total: what it answers, and the formatter then.
     pub fn count_call(&mut self, head: Head, stack: &mut [u32; 64], op: Op, text: &[u8]) -> HeadStep
-        ensures { λ r. ⌜ CountsCall r (now (self .exit) .len) (now (stack .exit)) (stepOr (countingAt (now (self .entry) .len) head (now (stack .entry))) (callOf op (now (text .entry)))) ⌝ }
+        ensures { λ r. ⌜ CountsCall r (now (self .exit) .len) (now (stack .exit))
+            (stepOr (countingAt (now (self .entry) .len) head (now (stack .entry))) (callOf op (now (text .entry)))) ⌝ }
     {
         let r = call_from(self.len, head, stack, op, text);
         self.len = r.head.mode.number;
@@ -104,7 +105,8 @@ impl ComputeStrLength {
     // Counts a run on from the total: its first refusal, with the place of that call, the total at the
     // end and how many entries are then open.
     pub fn count_run(&mut self, settings: Settings, calls: &[u64], text: &[u8]) -> Ran
-        ensures { λ r. ⌜ CountsRun r (now (self .exit) .len) (played (counting (now (self .entry) .len)) [] settings (decode (now (calls .entry)) (now (text .entry)))) ⌝ }
+        ensures { λ r. ⌜ CountsRun r (now (self .exit) .len)
+            (played (counting (now (self .entry) .len)) [] settings (decode (now (calls .entry)) (now (text .entry)))) ⌝ }
     {
         let r = count_run_from(self.len, settings, calls, text);
         self.len = r.number;

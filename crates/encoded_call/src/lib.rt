@@ -185,7 +185,9 @@ pub fn call_at(
     words: [u64; 5],
     text: &[u8],
 ) -> HeadStep
-    ensures { λ r. ⌜ viewOut r (now (stack .exit)) (now (buf .exit)) ≡ stepOr (view h (now (stack .entry)) (now (buf .entry))) (callAt (getD words 0 0) (getD words 1 0) (getD words 2 0) (getD words 3 0) (getD words 4 0) (now (text .entry))) ⌝ }
+    ensures { λ r. ⌜ viewOut r (now (stack .exit)) (now (buf .exit))
+        ≡ stepOr (view h (now (stack .entry)) (now (buf .entry)))
+        (callAt (getD words 0 0) (getD words 1 0) (getD words 2 0) (getD words 3 0) (getD words 4 0) (now (text .entry))) ⌝ }
 {
     let at = words[1] as usize;
     let len = words[2] as usize;

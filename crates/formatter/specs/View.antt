@@ -7,8 +7,8 @@ use lib.Dec.{leb}
 use lib.ListN.{getD}
 use Rattle.formatting.specs.FlagsAsNumber.{flagsOf}
 use Rattle.calls.specs.Call.{Call, Place, placePieces, closePieces, callFault, cutNumber, hold}
-use Rattle.calls.specs.Model.{Mode, Builder, hasPrinted, Entry, State, Out, PieceOutcome, inner, beyond, cutIn, stops}
-use Rattle.writer_backend.specs.Output.{modeOf, outputOf}
+use Rattle.calls.specs.Model.{Mode, Builder, hasPrinted, Entry, State, Out, PieceOutcome, inner, cutIn, stops}
+use Rattle.writer_backend.specs.Output.{outputOf}
 use Rattle.writer_backend.specs.Pieces.{tryAll}
 use Rattle.formatter.specs.Entries.{entryOf}
 use Rattle.formatter.specs.declared.head.Head.{Head}

@@ -137,7 +137,8 @@ fn emit_place(h: Head, buf: &mut [u8], top: u32, p: PlaceKind, name: &[u8]) -> W
 
 // A field or an entry: the innermost builder has one, and holds what was refused first.
 fn place_at(h: Head, stack: &mut [u32; 64], buf: &mut [u8], p: PlaceKind, name: &[u8]) -> HeadStep
-    ensures { λ r. ⌜ viewOut r (now (stack .exit)) (now (buf .exit)) ≡ step (view h (now (stack .entry)) (now (buf .entry))) (place (placeOf p (now (name .entry)))) ⌝ }
+    ensures { λ r. ⌜ viewOut r (now (stack .exit)) (now (buf .exit))
+        ≡ step (view h (now (stack .entry)) (now (buf .entry))) (place (placeOf p (now (name .entry)))) ⌝ }
 {
     let over = past(h.mode, buf);
     if over != 0 {
@@ -280,7 +281,8 @@ fn endsub_at(h: Head, stack: &[u32; 64], buf: &[u8]) -> HeadStep
 
 // A value, whose text is lent beside it.
 fn value_at(h: Head, stack: &[u32; 64], buf: &mut [u8], v: PVariant, s: &[u8]) -> HeadStep
-    ensures { λ r. ⌜ viewOut r (now (stack .entry)) (now (buf .exit)) ≡ step (view h (now (stack .entry)) (now (buf .entry))) (value (valueOf v (now (s .entry)))) ⌝ }
+    ensures { λ r. ⌜ viewOut r (now (stack .entry)) (now (buf .exit))
+        ≡ step (view h (now (stack .entry)) (now (buf .entry))) (value (valueOf v (now (s .entry)))) ⌝ }
 {
     let over = past(h.mode, buf);
     if over != 0 {

@@ -183,7 +183,8 @@ impl Formatter {
 
     // Writes or counts ASCII text.
     pub fn write_ascii(self, buf: &mut [u8], s: &[u8]) -> FormatterStep
-        ensures { λ r. ⌜ viewFOut r (now (buf .exit)) ≡ step (viewF self (now (buf .entry))) (value (ascii display (now (s .entry)) (whole (now (s .entry))))) ⌝ }
+        ensures { λ r. ⌜ viewFOut r (now (buf .exit))
+            ≡ step (viewF self (now (buf .entry))) (value (ascii display (now (s .entry)) (whole (now (s .entry))))) ⌝ }
     {
         let end = s.len();
         self.call(

@@ -181,7 +181,8 @@ pub fn write_debug(
     flags: FormattingFlags,
 ) -> Written
     ensures { λ r. ⌜ outcome r (now (buf .exit)) ≡ putText (now (buf .entry)) at (debugParts (flags .«num_fmt») flags «is_negative» n bits) ⌝ }
-    ensures { λ r. ⌜ ((k : ℕ) (z : ℤ) → displayText z ≡ cond «is_negative» (45 ∷ []) [] ++ decimal n → twosComplement k z ≡ bits → outcome r (now (buf .exit)) ≡ write flags (now (buf .entry)) at (integer debug k z)) ⌝ }
+    ensures { λ r. ⌜ ((k : ℕ) (z : ℤ) → displayText z ≡ cond «is_negative» (45 ∷ []) [] ++ decimal n → twosComplement k z
+        ≡ bits → outcome r (now (buf .exit)) ≡ write flags (now (buf .entry)) at (integer debug k z)) ⌝ }
 {
     let num_fmt = flags.num_fmt;
     match num_fmt {

@@ -71,7 +71,9 @@ pub fn write_ascii_range_debug(buf: &mut [u8], at: usize, s: &[u8], range: Range
 
 // Writes s between marks, or leaves what the escapes reach before one overspends.
 pub fn put_quoted(buf: &mut [u8], at: usize, s: &[u8]) -> Written
-    ensures { λ r. ⌜ outcome r (now (buf .exit)) ≡ unless (cursorFault (now (buf .entry)) at) (now (buf .entry)) at (placed (now (buf .entry)) at (quoted (now (s .entry))) (quotedLeaves (length (now (buf .entry)) - at) (now (s .entry)))) ⌝ }
+    ensures { λ r. ⌜ outcome r (now (buf .exit))
+        ≡ unless (cursorFault (now (buf .entry)) at) (now (buf .entry)) at
+        (placed (now (buf .entry)) at (quoted (now (s .entry))) (quotedLeaves (length (now (buf .entry)) - at) (now (s .entry)))) ⌝ }
 {
     let fault = cursor_fault(buf.len(), at);
     if !fault.is_done() {
@@ -101,7 +103,9 @@ pub fn put_quoted(buf: &mut [u8], at: usize, s: &[u8]) -> Written
 
 // The same of the bytes of s in the clamped range.
 pub fn put_quoted_part(buf: &mut [u8], at: usize, s: &[u8], range: Range) -> Written
-    ensures { λ r. ⌜ outcome r (now (buf .exit)) ≡ unless (cursorFault (now (buf .entry)) at) (now (buf .entry)) at (placed (now (buf .entry)) at (quoted (part (now (s .entry)) range)) (quotedLeaves (length (now (buf .entry)) - at) (part (now (s .entry)) range))) ⌝ }
+    ensures { λ r. ⌜ outcome r (now (buf .exit))
+        ≡ unless (cursorFault (now (buf .entry)) at) (now (buf .entry)) at
+        (placed (now (buf .entry)) at (quoted (part (now (s .entry)) range)) (quotedLeaves (length (now (buf .entry)) - at) (part (now (s .entry)) range))) ⌝ }
 {
     let clamped = saturate_range(s, range);
     let start = clamped.start;
@@ -113,7 +117,8 @@ pub fn put_quoted_part(buf: &mut [u8], at: usize, s: &[u8], range: Range) -> Wri
 // an escape overspends: then the bytes up to its backslash are there.
 fn put_escaped(buf: &mut [u8], w: usize, s: &[u8], left: usize) -> usize
     requires { ⌜ (1 ≤ w) × (w + length (now s) + left < length (now buf)) ⌝ }
-    ensures { λ r. ⌜ (r ≡ cond (ltb (length (now (s .entry)) + left) (length (escaped (now (s .entry))))) 0 (w + length (escaped (now (s .entry))))) × (now (buf .exit) ≡ splice (now (buf .entry)) w (leading left (now (s .entry)))) ⌝ }
+    ensures { λ r. ⌜ (r ≡ cond (ltb (length (now (s .entry)) + left) (length (escaped (now (s .entry))))) 0 (w + length (escaped (now (s .entry)))))
+        × (now (buf .exit) ≡ splice (now (buf .entry)) w (leading left (now (s .entry)))) ⌝ }
 {
     let mut at = w;
     let mut rest = left;
@@ -134,7 +139,8 @@ fn put_escaped(buf: &mut [u8], w: usize, s: &[u8], left: usize) -> usize
 // than left.
 fn put_escape(buf: &mut [u8], w: usize, b: u8, left: usize) -> usize
     requires { ⌜ w + left < length (now buf) ⌝ }
-    ensures { λ r. ⌜ (r ≡ cond (ltb left (costOf b)) 0 (length (escapeText (escapeOf b) b))) × (now (buf .exit) ≡ splice (now (buf .entry)) w (cond (ltb left (costOf b)) (92 ∷ []) (escapeText (escapeOf b) b))) ⌝ }
+    ensures { λ r. ⌜ (r ≡ cond (ltb left (costOf b)) 0 (length (escapeText (escapeOf b) b)))
+        × (now (buf .exit) ≡ splice (now (buf .entry)) w (cond (ltb left (costOf b)) (92 ∷ []) (escapeText (escapeOf b) b))) ⌝ }
 {
     match escape_of(b) {
         Escape::Bare => {

@@ -76,8 +76,10 @@ fn play(
     first: &mut u8,
     place: &mut usize,
 ) -> End
-    ensures { λ r. ⌜ record { first = now (first .exit); place = now (place .exit); entries = r .entries; output = outputOf (r .mode) (now (buf .exit)) } ≡ played (modeOf mode) (now (buf .entry)) settings (decode (now (calls .entry)) (now (text .entry))) ⌝ }
-    ensures { λ _. ⌜ now (answers .exit) ≡ stored (now (answers .entry)) (runOr (start (modeOf mode) (now (buf .entry)) settings) (decode (now (calls .entry)) (now (text .entry))) .answers) ⌝ }
+    ensures { λ r. ⌜ record { first = now (first .exit); place = now (place .exit); entries = r .entries; output = outputOf (r .mode) (now (buf .exit)) }
+        ≡ played (modeOf mode) (now (buf .entry)) settings (decode (now (calls .entry)) (now (text .entry))) ⌝ }
+    ensures { λ _. ⌜ now (answers .exit)
+        ≡ stored (now (answers .entry)) (runOr (start (modeOf mode) (now (buf .entry)) settings) (decode (now (calls .entry)) (now (text .entry))) .answers) ⌝ }
 {
     let mut stack = [0u32; 64];
     let mut head = Head::new(mode, settings);
@@ -119,7 +121,8 @@ fn count_each_from(
     answers: &mut [u8],
 ) -> Ran
     ensures { λ r. ⌜ endCounted r ≡ played (counting total) [] settings (decode (now (calls .entry)) (now (text .entry))) ⌝ }
-    ensures { λ _. ⌜ now (answers .exit) ≡ stored (now (answers .entry)) (runOr (start (counting total) [] settings) (decode (now (calls .entry)) (now (text .entry))) .answers) ⌝ }
+    ensures { λ _. ⌜ now (answers .exit)
+        ≡ stored (now (answers .entry)) (runOr (start (counting total) [] settings) (decode (now (calls .entry)) (now (text .entry))) .answers) ⌝ }
 {
     let mut none = [0u8; 0];
     let mut first = 0u8;
@@ -155,7 +158,8 @@ pub fn count_run_from(total: usize, settings: Settings, calls: &[u64], text: &[u
 // Counts a run, and stores each call's answer as far as there is room.
 pub fn count_run_each(settings: Settings, calls: &[u64], text: &[u8], answers: &mut [u8]) -> Ran
     ensures { λ r. ⌜ endCounted r ≡ played (counting 0) [] settings (decode (now (calls .entry)) (now (text .entry))) ⌝ }
-    ensures { λ _. ⌜ now (answers .exit) ≡ stored (now (answers .entry)) (runOr (start (counting 0) [] settings) (decode (now (calls .entry)) (now (text .entry))) .answers) ⌝ }
+    ensures { λ _. ⌜ now (answers .exit)
+        ≡ stored (now (answers .entry)) (runOr (start (counting 0) [] settings) (decode (now (calls .entry)) (now (text .entry))) .answers) ⌝ }
     ensures { λ r. ⌜ CountAgrees settings (decode (now (calls .entry)) (now (text .entry))) (r .first) (r .number) ⌝ }
 {
     count_each_from(0, settings, calls, text, answers)
@@ -181,9 +185,11 @@ pub fn write_run_each(
     answers: &mut [u8],
 ) -> Ran
     ensures { λ r. ⌜ endWritten r (now (buf .exit)) ≡ played (writing at) (now (buf .entry)) settings (decode (now (calls .entry)) (now (text .entry))) ⌝ }
-    ensures { λ _. ⌜ now (answers .exit) ≡ stored (now (answers .entry)) (runOr (start (writing at) (now (buf .entry)) settings) (decode (now (calls .entry)) (now (text .entry))) .answers) ⌝ }
+    ensures { λ _. ⌜ now (answers .exit)
+        ≡ stored (now (answers .entry)) (runOr (start (writing at) (now (buf .entry)) settings) (decode (now (calls .entry)) (now (text .entry))) .answers) ⌝ }
     ensures { λ r. ⌜ WriteAgrees settings (decode (now (calls .entry)) (now (text .entry))) (now (buf .entry)) at (r .first) (r .number) (now (buf .exit)) ⌝ }
-    ensures { λ r. ⌜ WritesAsCounted (played (counting 0) [] settings (decode (now (calls .entry)) (now (text .entry)))) settings (decode (now (calls .entry)) (now (text .entry))) (now (buf .entry)) at (r .first) (r .number) (now (buf .exit)) ⌝ }
+    ensures { λ r. ⌜ WritesAsCounted (played (counting 0) [] settings (decode (now (calls .entry)) (now (text .entry)))) settings
+        (decode (now (calls .entry)) (now (text .entry))) (now (buf .entry)) at (r .first) (r .number) (now (buf .exit)) ⌝ }
 {
     let mut first = 0u8;
     let mut place = 0usize;
@@ -211,7 +217,8 @@ pub fn write_run_each(
 pub fn write_run(settings: Settings, buf: &mut [u8], at: usize, calls: &[u64], text: &[u8]) -> Ran
     ensures { λ r. ⌜ endWritten r (now (buf .exit)) ≡ played (writing at) (now (buf .entry)) settings (decode (now (calls .entry)) (now (text .entry))) ⌝ }
     ensures { λ r. ⌜ WriteAgrees settings (decode (now (calls .entry)) (now (text .entry))) (now (buf .entry)) at (r .first) (r .number) (now (buf .exit)) ⌝ }
-    ensures { λ r. ⌜ WritesAsCounted (played (counting 0) [] settings (decode (now (calls .entry)) (now (text .entry)))) settings (decode (now (calls .entry)) (now (text .entry))) (now (buf .entry)) at (r .first) (r .number) (now (buf .exit)) ⌝ }
+    ensures { λ r. ⌜ WritesAsCounted (played (counting 0) [] settings (decode (now (calls .entry)) (now (text .entry)))) settings
+        (decode (now (calls .entry)) (now (text .entry))) (now (buf .entry)) at (r .first) (r .number) (now (buf .exit)) ⌝ }
 {
     let mut none = [0u8; 0];
     write_run_each(settings, buf, at, calls, text, &mut none)

@@ -81,7 +81,9 @@ fn step(
     op: Op,
     s: &[u8],
 ) -> Stepped
-    ensures { λ r. ⌜ ((c : Call) → callOf op (now (s .entry)) ≡ some c → steppedOf r (now (counted .exit)) (now (written .exit)) (now (buf .exit)) ≡ stepping line (sheetOf sheet (now (counted .entry)) (now (written .entry)) (now (buf .entry))) c) ⌝ }
+    ensures { λ r. ⌜ ((c : Call) → callOf op (now (s .entry)) ≡ some c →
+        steppedOf r (now (counted .exit)) (now (written .exit)) (now (buf .exit))
+        ≡ stepping line (sheetOf sheet (now (counted .entry)) (now (written .entry)) (now (buf .entry))) c) ⌝ }
 {
     let mut none = [0u8; 0];
     let count = call(sheet.counted, counted, &mut none, op, s);
@@ -118,8 +120,11 @@ pub fn answer_line(
     out: &mut [u8],
     at: usize,
 ) -> Answered
-    ensures { λ r. ⌜ answered r (now (counted .exit)) (now (written .exit)) (now (buf .exit)) (now (out .exit)) ≡ answering line (sheetOf sheet (now (counted .entry)) (now (written .entry)) (now (buf .entry))) (callOfLine (now (l .entry))) (now (out .entry)) at ⌝ }
-    ensures { λ _. ⌜ length (stepped line (sheetOf sheet (now (counted .entry)) (now (written .entry)) (now (buf .entry))) (callOfLine (now (l .entry))) .text) ≤ maxRow ⌝ }
+    ensures { λ r. ⌜ answered r (now (counted .exit)) (now (written .exit)) (now (buf .exit)) (now (out .exit))
+        ≡ answering line (sheetOf sheet (now (counted .entry)) (now (written .entry)) (now (buf .entry)))
+        (callOfLine (now (l .entry))) (now (out .entry)) at ⌝ }
+    ensures { λ _. ⌜ length (stepped line (sheetOf sheet (now (counted .entry)) (now (written .entry)) (now (buf .entry)))
+        (callOfLine (now (l .entry))) .text) ≤ maxRow ⌝ }
     ensures { λ r. ⌜ now (text .exit) ≡ splice (now (text .entry)) 0 (textIn (callOfLine (now (l .entry)))) ⌝ }
 {
     let parsed = parse_line(l, text);

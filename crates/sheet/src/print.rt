@@ -76,7 +76,8 @@ pub fn put_refused(out: &mut [u8], at: usize) -> Written
 // Lays `end`, a total and a cursor at the beginning of out.
 fn lay_end(out: &mut [u8], total: u64, cursor: u64) -> usize
     requires { ⌜ 46 ≤ length (now out) ⌝ }
-    ensures { λ r. ⌜ (r ≡ length (bytes "end," ++ cell total 44 ++ cell cursor 44)) × ((r ≤ 46) × (now (out .exit) ≡ splice (now (out .entry)) 0 (bytes "end," ++ cell total 44 ++ cell cursor 44))) ⌝ }
+    ensures { λ r. ⌜ (r ≡ length (bytes "end," ++ cell total 44 ++ cell cursor 44))
+        × ((r ≤ 46) × (now (out .exit) ≡ splice (now (out .entry)) 0 (bytes "end," ++ cell total 44 ++ cell cursor 44))) ⌝ }
 {
     let end = put(out, 0, b"end,");
     let first = put_number(out, end.at, total, b',');

@@ -59,7 +59,8 @@ pub fn int_type(t: &[u8]) -> IntType
 }
 
 fn unsigned_op(width: Width, s: &[u8]) -> Op
-    ensures { λ r. ⌜ callOf r [] ≡ Option·map (λ z. value (integer debug (bitsOf width) z)) (Option·map pos (upTo (2 ^ bitsOf width - 1) (decimalOf (now (s .entry))))) ⌝ }
+    ensures { λ r. ⌜ callOf r [] ≡ Option·map (λ z. value (integer debug (bitsOf width) z))
+        (Option·map pos (upTo (2 ^ bitsOf width - 1) (decimalOf (now (s .entry))))) ⌝ }
 {
     match number(s, greatest(width)) {
         Number::Is(n) => Op::Value(PVariant::Int(Form::Debug, Integer::Unsigned(width, n))),

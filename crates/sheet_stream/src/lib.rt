@@ -98,7 +98,8 @@ fn zero(buf: &mut [u8], n: usize)
 // Line 1 begins the runs, over bytes that are zero.
 fn first_line(h: State, l: &[u8], buf: &mut [u8], out: &mut [u8], at: usize) -> Told
     requires { ⌜ Sized h (now buf) × ((h .line ≡ 1) × (at + maxRow ≤ length (now out))) ⌝ }
-    ensures { λ r. ⌜ ((c w : List ℕ) → Answers first (stageOf (r .state) c w (now (buf .exit))) (now (l .entry)) (now (out .entry)) (now (out .exit)) at (r .at)) ⌝ }
+    ensures { λ r. ⌜ ((c w : List ℕ) → Answers first (stageOf (r .state) c w (now (buf .exit)))
+        (now (l .entry)) (now (out .entry)) (now (out .exit)) at (r .at)) ⌝ }
     ensures { λ r. ⌜ Onward h (r .state) ⌝ }
 {
     match parse_begin(l) {
@@ -143,7 +144,8 @@ fn later_line(
     at: usize,
 ) -> Told
     requires { ⌜ Sized h (now buf) × (at + maxRow ≤ length (now out)) ⌝ }
-    ensures { λ r. ⌜ Answers (later (h .line) (sheetOf (h .sheet) (now (counted .entry)) (now (written .entry)) (take (h .size) (now (buf .entry))))) (stageOf (r .state) (now (counted .exit)) (now (written .exit)) (now (buf .exit))) (now (l .entry)) (now (out .entry)) (now (out .exit)) at (r .at) ⌝ }
+    ensures { λ r. ⌜ Answers (later (h .line) (sheetOf (h .sheet) (now (counted .entry)) (now (written .entry)) (take (h .size) (now (buf .entry)))))
+        (stageOf (r .state) (now (counted .exit)) (now (written .exit)) (now (buf .exit))) (now (l .entry)) (now (out .entry)) (now (out .exit)) at (r .at) ⌝ }
     ensures { λ r. ⌜ Onward h (r .state) ⌝ }
 {
     let line = h.line;
@@ -185,7 +187,8 @@ fn answer(
     at: usize,
 ) -> Told
     requires { ⌜ Sized h (now buf) × (at + maxRow ≤ length (now out)) ⌝ }
-    ensures { λ r. ⌜ Answers (stageOf h (now (counted .entry)) (now (written .entry)) (now (buf .entry))) (stageOf (r .state) (now (counted .exit)) (now (written .exit)) (now (buf .exit))) (now (l .entry)) (now (out .entry)) (now (out .exit)) at (r .at) ⌝ }
+    ensures { λ r. ⌜ Answers (stageOf h (now (counted .entry)) (now (written .entry)) (now (buf .entry)))
+        (stageOf (r .state) (now (counted .exit)) (now (written .exit)) (now (buf .exit))) (now (l .entry)) (now (out .entry)) (now (out .exit)) at (r .at) ⌝ }
     ensures { λ r. ⌜ Onward h (r .state) ⌝ }
 {
     let going = h.going;
@@ -274,7 +277,8 @@ fn ready_step(
     out: &mut [u8],
 ) -> Stream
     requires { ⌜ Ready h (now buf) (now out) ⌝ }
-    ensures { λ r. ⌜ Stepped h r (now (space .entry)) (now (counted .entry)) (now (written .entry)) (now (buf .entry)) (now (out .entry)) (now (counted .exit)) (now (written .exit)) (now (buf .exit)) (now (out .exit)) ⌝ }
+    ensures { λ r. ⌜ Stepped h r (now (space .entry)) (now (counted .entry)) (now (written .entry)) (now (buf .entry))
+        (now (out .entry)) (now (counted .exit)) (now (written .exit)) (now (buf .exit)) (now (out .exit)) ⌝ }
 {
     let at = h.printed;
     let before = h.reader;
@@ -322,8 +326,12 @@ pub fn step(
     text: &mut [u8; 2048],
     out: &mut [u8],
 ) -> Stream
-    ensures { λ r. ⌜ (Ready h (now (buf .entry)) (now (out .entry)) → Stepped h r (now (space .entry)) (now (counted .entry)) (now (written .entry)) (now (buf .entry)) (now (out .entry)) (now (counted .exit)) (now (written .exit)) (now (buf .exit)) (now (out .exit))) ⌝ }
-    ensures { λ r. ⌜ ((Ready h (now (buf .entry)) (now (out .entry)) → ⊥) → Halts h r (now (counted .entry)) (now (written .entry)) (now (buf .entry)) (now (out .entry)) (now (counted .exit)) (now (written .exit)) (now (buf .exit)) (now (out .exit))) ⌝ }
+    ensures { λ r. ⌜ (Ready h (now (buf .entry)) (now (out .entry)) →
+        Stepped h r (now (space .entry)) (now (counted .entry)) (now (written .entry)) (now (buf .entry))
+        (now (out .entry)) (now (counted .exit)) (now (written .exit)) (now (buf .exit)) (now (out .exit))) ⌝ }
+    ensures { λ r. ⌜ ((Ready h (now (buf .entry)) (now (out .entry)) → ⊥) →
+        Halts h r (now (counted .entry)) (now (written .entry)) (now (buf .entry)) (now (out .entry))
+        (now (counted .exit)) (now (written .exit)) (now (buf .exit)) (now (out .exit))) ⌝ }
 {
     if !is_ready(h, buf, out) {
         return halted(h);

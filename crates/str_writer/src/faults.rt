@@ -92,7 +92,8 @@ pub fn char_fault(c: u32) -> Answer
 
 // What a string written at the cursor of len bytes meets first, but for its range: 9, 4.
 pub fn judge_str(len: usize, at: usize, s: &[u8]) -> Answer
-    ensures { λ r. ⌜ ((b : List ℕ) → length b ≡ len → (m : Form) (r' : Range) → r ≡ answerOf (firstOf (cursorFault b at ∷ inputFault (str m (now (s .entry)) r') ∷ []))) ⌝ }
+    ensures { λ r. ⌜ ((b : List ℕ) → length b ≡ len → (m : Form) (r' : Range) → r
+        ≡ answerOf (firstOf (cursorFault b at ∷ inputFault (str m (now (s .entry)) r') ∷ []))) ⌝ }
 {
     let cursor = cursor_fault(len, at);
     if !cursor.is_done() {

@@ -54,7 +54,8 @@ impl<'w> StrWriterMut<'w> {
 
     // Writes a string at the cursor.
     pub fn write_str(&mut self, s: &[u8]) -> Answer
-        ensures { λ r. ⌜ Gives r (now (self .entry)) (now (self .exit)) (write defaultFlags (now (now (self .entry) .buffer)) (now (self .entry) .len) (str display (now (s .entry)) (whole (now (s .entry))))) ⌝ }
+        ensures { λ r. ⌜ Gives r (now (self .entry)) (now (self .exit))
+            (write defaultFlags (now (now (self .entry) .buffer)) (now (self .entry) .len) (str display (now (s .entry)) (whole (now (s .entry))))) ⌝ }
     {
         let at = self.len;
         let r = str_writer::write_str(&mut *self.buffer, at, s);
@@ -64,7 +65,8 @@ impl<'w> StrWriterMut<'w> {
 
     // Writes a string between quotation marks at the cursor.
     pub fn write_str_debug(&mut self, s: &[u8]) -> Answer
-        ensures { λ r. ⌜ Gives r (now (self .entry)) (now (self .exit)) (write defaultFlags (now (now (self .entry) .buffer)) (now (self .entry) .len) (str debug (now (s .entry)) (whole (now (s .entry))))) ⌝ }
+        ensures { λ r. ⌜ Gives r (now (self .entry)) (now (self .exit))
+            (write defaultFlags (now (now (self .entry) .buffer)) (now (self .entry) .len) (str debug (now (s .entry)) (whole (now (s .entry))))) ⌝ }
     {
         let at = self.len;
         let r = quoted_writes::write_str_debug(&mut *self.buffer, at, s);
@@ -74,7 +76,8 @@ impl<'w> StrWriterMut<'w> {
 
     // truncate for NoEncoding.
     pub fn truncate(&mut self, length: usize) -> Answer
-        ensures { λ r. ⌜ Gives r (now (self .entry)) (now (self .exit)) (outcome (truncated (now (now (self .entry) .buffer)) (now (self .entry) .len) length) (now (now (self .entry) .buffer))) ⌝ }
+        ensures { λ r. ⌜ Gives r (now (self .entry)) (now (self .exit))
+            (outcome (truncated (now (now (self .entry) .buffer)) (now (self .entry) .len) length) (now (now (self .entry) .buffer))) ⌝ }
     {
         let at = self.len;
         let r = truncate_at(&mut *self.buffer, at, length);
@@ -84,7 +87,8 @@ impl<'w> StrWriterMut<'w> {
 
     // truncate for Utf8Encoding.
     pub fn truncate_utf8(&mut self, length: usize) -> Answer
-        ensures { λ r. ⌜ Gives r (now (self .entry)) (now (self .exit)) (outcome (truncatedUtf8 (now (now (self .entry) .buffer)) (now (self .entry) .len) length) (now (now (self .entry) .buffer))) ⌝ }
+        ensures { λ r. ⌜ Gives r (now (self .entry)) (now (self .exit))
+            (outcome (truncatedUtf8 (now (now (self .entry) .buffer)) (now (self .entry) .len) length) (now (now (self .entry) .buffer))) ⌝ }
     {
         let at = self.len;
         let r = truncate_utf8_at(&mut *self.buffer, at, length);
@@ -103,7 +107,8 @@ pub struct WrittenTwice {
 // A string and after it a quoted string, through one writer: its parameters are plain, so that
 // callers need no writer of their own. The second is written also where the first is refused.
 pub fn write_str_then_debug(buffer: &mut [u8], length: usize, s: &[u8], t: &[u8]) -> WrittenTwice
-    ensures { λ r. ⌜ GivesTwice r (now (buffer .exit)) (write defaultFlags (now (buffer .entry)) length (str display (now (s .entry)) (whole (now (s .entry))))) (str debug (now (t .entry)) (whole (now (t .entry)))) ⌝ }
+    ensures { λ r. ⌜ GivesTwice r (now (buffer .exit)) (write defaultFlags (now (buffer .entry)) length (str display (now (s .entry)) (whole (now (s .entry)))))
+        (str debug (now (t .entry)) (whole (now (t .entry)))) ⌝ }
 {
     let mut w = StrWriterMut::from_custom(buffer, length);
     let first = w.write_str(s);
@@ -132,7 +137,8 @@ pub fn write_str_then_truncate(
     length: usize,
     utf8_length: usize,
 ) -> Truncated
-    ensures { λ r. ⌜ GivesTruncated r (now (buffer .exit)) (write defaultFlags (now (buffer .entry)) 0 (str display (now (s .entry)) (whole (now (s .entry))))) length «utf8_length» ⌝ }
+    ensures { λ r. ⌜ GivesTruncated r (now (buffer .exit)) (write defaultFlags (now (buffer .entry)) 0
+        (str display (now (s .entry)) (whole (now (s .entry))))) length «utf8_length» ⌝ }
 {
     let mut w = StrWriterMut::from_custom_cleared(buffer);
     let written = w.write_str(s);

@@ -56,8 +56,10 @@ fn write(
 ) -> Ran
     ensures { λ r. ⌜ endWritten r (now (buf .exit)) ≡ writeEnd flags (now (buf .entry)) at (now (calls .entry)) (now (text .entry)) ⌝ }
     ensures { λ _. ⌜ now (answers .exit) ≡ stored (now (answers .entry)) (writeAnswers flags (now (buf .entry)) at (now (calls .entry)) (now (text .entry))) ⌝ }
-    ensures { λ r. ⌜ (flags < 12 → WriteAgrees (settingsBy flags) (decode (now (calls .entry)) (now (text .entry))) (now (buf .entry)) at (r .first) (r .number) (now (buf .exit))) ⌝ }
-    ensures { λ r. ⌜ WritesAsCounted (countEnd flags (now (calls .entry)) (now (text .entry))) (settingsBy flags) (decode (now (calls .entry)) (now (text .entry))) (now (buf .entry)) at (r .first) (r .number) (now (buf .exit)) ⌝ }
+    ensures { λ r. ⌜ (flags < 12 → WriteAgrees (settingsBy flags) (decode (now (calls .entry)) (now (text .entry)))
+        (now (buf .entry)) at (r .first) (r .number) (now (buf .exit))) ⌝ }
+    ensures { λ r. ⌜ WritesAsCounted (countEnd flags (now (calls .entry)) (now (text .entry))) (settingsBy flags)
+        (decode (now (calls .entry)) (now (text .entry))) (now (buf .entry)) at (r .first) (r .number) (now (buf .exit)) ⌝ }
 {
     if 11 < flags {
         if buf.len() < at {
@@ -94,9 +96,12 @@ pub extern "C" fn table_text_write(
     text: &[u8],
 ) -> u8
     ensures { λ r. ⌜ r ≡ writeEnd flags (now (buf .entry)) (now (cursor .entry)) (now (calls .entry)) (now (text .entry)) .first ⌝ }
-    ensures { λ _. ⌜ record { mode = writing (now (cursor .exit)); bytes = now (buf .exit) } ≡ writeEnd flags (now (buf .entry)) (now (cursor .entry)) (now (calls .entry)) (now (text .entry)) .output ⌝ }
-    ensures { λ r. ⌜ (flags < 12 → WriteAgrees (settingsBy flags) (decode (now (calls .entry)) (now (text .entry))) (now (buf .entry)) (now (cursor .entry)) r (now (cursor .exit)) (now (buf .exit))) ⌝ }
-    ensures { λ r. ⌜ WritesAsCounted (countEnd flags (now (calls .entry)) (now (text .entry))) (settingsBy flags) (decode (now (calls .entry)) (now (text .entry))) (now (buf .entry)) (now (cursor .entry)) r (now (cursor .exit)) (now (buf .exit)) ⌝ }
+    ensures { λ _. ⌜ record { mode = writing (now (cursor .exit)); bytes = now (buf .exit) }
+        ≡ writeEnd flags (now (buf .entry)) (now (cursor .entry)) (now (calls .entry)) (now (text .entry)) .output ⌝ }
+    ensures { λ r. ⌜ (flags < 12 → WriteAgrees (settingsBy flags) (decode (now (calls .entry)) (now (text .entry)))
+        (now (buf .entry)) (now (cursor .entry)) r (now (cursor .exit)) (now (buf .exit))) ⌝ }
+    ensures { λ r. ⌜ WritesAsCounted (countEnd flags (now (calls .entry)) (now (text .entry))) (settingsBy flags)
+        (decode (now (calls .entry)) (now (text .entry))) (now (buf .entry)) (now (cursor .entry)) r (now (cursor .exit)) (now (buf .exit)) ⌝ }
 {
     let mut none = [0u8; 0];
     let r = write(flags, buf, *cursor, calls, text, &mut none);
@@ -140,11 +145,15 @@ pub extern "C" fn table_text_write_each(
     answers: &mut [u8],
 ) -> u8
     ensures { λ r. ⌜ r ≡ writeEnd flags (now (buf .entry)) (now (cursor .entry)) (now (calls .entry)) (now (text .entry)) .first ⌝ }
-    ensures { λ _. ⌜ record { mode = writing (now (cursor .exit)); bytes = now (buf .exit) } ≡ writeEnd flags (now (buf .entry)) (now (cursor .entry)) (now (calls .entry)) (now (text .entry)) .output ⌝ }
-    ensures { λ r. ⌜ (flags < 12 → WriteAgrees (settingsBy flags) (decode (now (calls .entry)) (now (text .entry))) (now (buf .entry)) (now (cursor .entry)) r (now (cursor .exit)) (now (buf .exit))) ⌝ }
-    ensures { λ r. ⌜ WritesAsCounted (countEnd flags (now (calls .entry)) (now (text .entry))) (settingsBy flags) (decode (now (calls .entry)) (now (text .entry))) (now (buf .entry)) (now (cursor .entry)) r (now (cursor .exit)) (now (buf .exit)) ⌝ }
+    ensures { λ _. ⌜ record { mode = writing (now (cursor .exit)); bytes = now (buf .exit) }
+        ≡ writeEnd flags (now (buf .entry)) (now (cursor .entry)) (now (calls .entry)) (now (text .entry)) .output ⌝ }
+    ensures { λ r. ⌜ (flags < 12 → WriteAgrees (settingsBy flags) (decode (now (calls .entry)) (now (text .entry)))
+        (now (buf .entry)) (now (cursor .entry)) r (now (cursor .exit)) (now (buf .exit))) ⌝ }
+    ensures { λ r. ⌜ WritesAsCounted (countEnd flags (now (calls .entry)) (now (text .entry))) (settingsBy flags)
+        (decode (now (calls .entry)) (now (text .entry))) (now (buf .entry)) (now (cursor .entry)) r (now (cursor .exit)) (now (buf .exit)) ⌝ }
     ensures { λ _. ⌜ now (entries .exit) ≡ writeEnd flags (now (buf .entry)) (now (cursor .entry)) (now (calls .entry)) (now (text .entry)) .entries ⌝ }
-    ensures { λ _. ⌜ now (answers .exit) ≡ stored (now (answers .entry)) (writeAnswers flags (now (buf .entry)) (now (cursor .entry)) (now (calls .entry)) (now (text .entry))) ⌝ }
+    ensures { λ _. ⌜ now (answers .exit)
+        ≡ stored (now (answers .entry)) (writeAnswers flags (now (buf .entry)) (now (cursor .entry)) (now (calls .entry)) (now (text .entry))) ⌝ }
 {
     let r = write(flags, buf, *cursor, calls, text, answers);
     *cursor = r.number;

@@ -198,7 +198,8 @@ fn bits_at(width: Width, x: i64) -> u64
 // An integer counted or written. Its functions have one call site each: the compiler lays them into
 // the run's loop.
 fn put_integer(m: WriterBackend, buf: &mut [u8], p: Parts) -> Wrote
-    ensures { λ r. ⌜ ((f : Flags.FormattingFlags) (form : ValueForm) (k : ℕ) (z : ℤ) → beyond (modeOf m) (now (buf .entry)) ≡ numberOf Done → textOf f (integer form k z) ≡ textOfParts p → putOut r (now (buf .exit)) ≡ valueOut m (now (buf .entry)) f (integer form k z)) ⌝ }
+    ensures { λ r. ⌜ ((f : Flags.FormattingFlags) (form : ValueForm) (k : ℕ) (z : ℤ) → beyond (modeOf m) (now (buf .entry)) ≡ numberOf Done →
+        textOf f (integer form k z) ≡ textOfParts p → putOut r (now (buf .exit)) ≡ valueOut m (now (buf .entry)) f (integer form k z)) ⌝ }
 {
     let flags = p.flags;
     if m.is_counting() {
@@ -222,7 +223,8 @@ fn debug_len(is_negative: bool, n: u64, bits: u64, flags: FormattingFlags) -> us
 }
 
 fn put_char(m: WriterBackend, buf: &mut [u8], form: Form, c: u32) -> Wrote
-    ensures { λ r. ⌜ ((f : Flags.FormattingFlags) → beyond (modeOf m) (now (buf .entry)) ≡ numberOf Done → putOut r (now (buf .exit)) ≡ valueOut m (now (buf .entry)) f (char (formOf form) c)) ⌝ }
+    ensures { λ r. ⌜ ((f : Flags.FormattingFlags) → beyond (modeOf m) (now (buf .entry)) ≡ numberOf Done →
+        putOut r (now (buf .exit)) ≡ valueOut m (now (buf .entry)) f (char (formOf form) c)) ⌝ }
 {
     let fault = char_fault(c);
     if !fault.is_done() {
@@ -262,7 +264,8 @@ fn judge_str(m: WriterBackend, s: &[u8], range: Range) -> Answer
 }
 
 fn put_str(m: WriterBackend, buf: &mut [u8], form: Form, s: &[u8], range: Range) -> Wrote
-    ensures { λ r. ⌜ ((f : Flags.FormattingFlags) → beyond (modeOf m) (now (buf .entry)) ≡ numberOf Done → putOut r (now (buf .exit)) ≡ valueOut m (now (buf .entry)) f (str (formOf form) (now (s .entry)) range)) ⌝ }
+    ensures { λ r. ⌜ ((f : Flags.FormattingFlags) → beyond (modeOf m) (now (buf .entry)) ≡ numberOf Done →
+        putOut r (now (buf .exit)) ≡ valueOut m (now (buf .entry)) f (str (formOf form) (now (s .entry)) range)) ⌝ }
 {
     let fault = judge_str(m, s, range);
     if !fault.is_done() {
@@ -279,7 +282,8 @@ fn put_str(m: WriterBackend, buf: &mut [u8], form: Form, s: &[u8], range: Range)
 }
 
 fn put_ascii(m: WriterBackend, buf: &mut [u8], form: Form, s: &[u8], range: Range) -> Wrote
-    ensures { λ r. ⌜ ((f : Flags.FormattingFlags) → beyond (modeOf m) (now (buf .entry)) ≡ numberOf Done → putOut r (now (buf .exit)) ≡ valueOut m (now (buf .entry)) f (ascii (formOf form) (now (s .entry)) range)) ⌝ }
+    ensures { λ r. ⌜ ((f : Flags.FormattingFlags) → beyond (modeOf m) (now (buf .entry)) ≡ numberOf Done →
+        putOut r (now (buf .exit)) ≡ valueOut m (now (buf .entry)) f (ascii (formOf form) (now (s .entry)) range)) ⌝ }
 {
     let fault = ascii_fault(s);
     if !fault.is_done() {
@@ -297,7 +301,8 @@ fn put_ascii(m: WriterBackend, buf: &mut [u8], form: Form, s: &[u8], range: Rang
 
 // The length of a clamped range, bare or quoted, added to the total.
 fn add_string(m: WriterBackend, form: Form, s: &[u8], range: Range) -> Wrote
-    ensures { λ r. ⌜ ((b : List ℕ) → isCounting (modeOf m) ≡ true → putOut r b ≡ putIn (modeOf m) b (stringText (formOf form) (part (now (s .entry)) range)) (λ n. [])) ⌝ }
+    ensures { λ r. ⌜ ((b : List ℕ) → isCounting (modeOf m) ≡ true →
+        putOut r b ≡ putIn (modeOf m) b (stringText (formOf form) (part (now (s .entry)) range)) (λ n. [])) ⌝ }
 {
     match form {
         Form::Display => {
@@ -316,7 +321,8 @@ fn add_string(m: WriterBackend, form: Form, s: &[u8], range: Range) -> Wrote
 }
 
 fn put_repeated(m: WriterBackend, buf: &mut [u8], c: u8, n: usize) -> Wrote
-    ensures { λ r. ⌜ ((f : Flags.FormattingFlags) → beyond (modeOf m) (now (buf .entry)) ≡ numberOf Done → putOut r (now (buf .exit)) ≡ valueOut m (now (buf .entry)) f (repeated c n)) ⌝ }
+    ensures { λ r. ⌜ ((f : Flags.FormattingFlags) → beyond (modeOf m) (now (buf .entry)) ≡ numberOf Done →
+        putOut r (now (buf .exit)) ≡ valueOut m (now (buf .entry)) f (repeated c n)) ⌝ }
 {
     if m.is_counting() {
         return add_len(m, n);
