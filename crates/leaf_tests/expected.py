@@ -6,6 +6,8 @@ import sys
 # 'The answer to a call'
 ANSWERS = {'Done': 0, 'NotEnoughSpace': 1, 'NotAscii': 2, 'NotOnCharBoundary': 3, 'NotUtf8': 4,
            'NotAChar': 5, 'CountTooLarge': 6, 'TooDeep': 7, 'WrongCall': 8, 'BadCursor': 9}
+# 'A character'
+LETTERS = dict(zip(b'\t\n\r\\\'"', 'tnr\\\'"'))
 TYPES = {sign + str(bits): (sign, bits) for sign in 'ui' for bits in (8, 16, 32, 64)}
 
 
@@ -37,11 +39,16 @@ def is_utf8(s):
 
 def quoted(s, mark):
     """'A character' and 'A string': s between two marks, with the escapes."""
-    letters = dict(zip(b'\t\n\r\\\'"', 'tnr\\\'"'))
     text = mark
     for b in s:
-        text += '\\' + letters[b] if b in letters else '\\x%02X' % b if b < 32 else chr(b)
+        text += '\\' + LETTERS[b] if b in LETTERS else '\\x%02X' % b if b < 32 else chr(b)
     return (text + mark).encode('latin-1')
+
+
+def escape(field):
+    b = decimal(field, high=255)
+    letter = ord(LETTERS[b]) if b in LETTERS else 'none'
+    return '%d: %s %d,%d' % (b, letter, b in LETTERS or b < 32, b in LETTERS)
 
 
 def character(code):
@@ -127,6 +134,7 @@ def case(line):
 FORMS = {
     'utf8': lambda field: '%s: %d' % (to_hex(from_hex(field)), is_utf8(from_hex(field))),
     'char': character,
+    'escape': escape,
     'answer': lambda name: '%s: %d' % (name, ANSWERS[name]),
     'ascii': ascii_text,
     'boundary': boundary,

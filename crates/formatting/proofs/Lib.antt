@@ -1,1 +1,2 @@
 pub mod FlagsNumbers
+pub mod Letters

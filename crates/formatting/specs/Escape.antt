@@ -1,24 +1,51 @@
 -- Document 01, 'A character' and 'A string': what stands between quotation marks.
 use mathlib.Core.Bool.{Bool, true, false, cond}
 use mathlib.Core.List.{List, [], _∷_, _++_}
+use mathlib.Core.Path.{_≡_}
+use mathlib.Core.Logic.{_≢_}
 use Prim.Native.Nat.{ℕ, _/_, _%_}
+use Prim.Native.Char.{code}
 use lib.Dec.{ltb, eqb}
 use Rattle.formatting.specs.declared.escaping.Escape.{Escape}
 use Rattle.formatting.specs.declared.escaping.Escape.the-variants.{Bare, Backslash, Hexadecimal}
+use Rattle.formatting.specs.declared.escaping.EscapeLetter.{EscapeLetter}
+use Rattle.formatting.specs.declared.escaping.EscapeLetter.the-variants.{Letter, None}
 use Rattle.formatting.specs.declared.flags.HexFormatting.the-variants.{Upper}
 use Rattle.formatting.specs.Hex.{hexDigit}
 
--- 'A character': tab, line feed, return, `\`, `'`, `"` become backslash and `t n r \ ' "`; other codes below 32 become `\x` and digits; the rest stay
+-- 'A character': tab, line feed, return, `\`, `'`, `"`, each with its letter, `t n r \ ' "`
+abbrev pub escapeLetters : List (ℕ × ℕ)
+escapeLetters =
+    (code "\t", code "t")
+    ∷ (code "\n", code "n")
+    ∷ (code "\r", code "r")
+    ∷ (code "\\", code "\\")
+    ∷ (code "'", code "'")
+    ∷ (code "\"", code "\"")
+    ∷ []
+
+-- `found` of what a byte is paired with, or `other` where it is in no pair
+abbrev pub pairedWith : {A : Type 0} → (ℕ → A) → A → List (ℕ × ℕ) → ℕ → A
+pairedWith found other [] b = other
+pairedWith found other ((byte, letter) ∷ pairs) b = cond (eqb b byte) (found letter) (pairedWith found other pairs b)
+
+-- 'A character': the letter of a byte, or none
+unfoldable pub letterOf : ℕ → EscapeLetter
+letterOf b = pairedWith Letter None escapeLetters b
+
+-- document 02, ticket 4: of the 256 bytes six have document 01's letters, and every other one has none (proved in proofs/Letters)
+pub record LettersRight : Type 0 where
+  pub tab : letterOf 9 ≡ Letter (code "t")
+  pub line-feed : letterOf 10 ≡ Letter (code "n")
+  pub return : letterOf 13 ≡ Letter (code "r")
+  pub quotation-mark : letterOf 34 ≡ Letter (code "\"")
+  pub apostrophe : letterOf 39 ≡ Letter (code "'")
+  pub backslash : letterOf 92 ≡ Letter (code "\\")
+  pub other : (b : ℕ) → b ≢ 9 → b ≢ 10 → b ≢ 13 → b ≢ 34 → b ≢ 39 → b ≢ 92 → letterOf b ≡ None
+
+-- 'A character': a byte that has a letter becomes a backslash and the letter; other codes below 32 become `\x` and digits; the rest stay
 unfoldable pub escapeOf : ℕ → Escape
-escapeOf b =
-    cond (eqb b 9) (Backslash 116)
-    (cond (eqb b 10) (Backslash 110)
-    (cond (eqb b 13) (Backslash 114)
-    (cond (eqb b 92) (Backslash 92)
-    (cond (eqb b 39) (Backslash 39)
-    (cond (eqb b 34) (Backslash 34)
-    (cond (ltb b 32) Hexadecimal
-    Bare))))))
+escapeOf b = pairedWith Backslash (cond (ltb b 32) Hexadecimal Bare) escapeLetters b
 
 -- 'A character': whether the byte becomes a backslash and a letter
 abbrev pub isLetter : Escape → Bool

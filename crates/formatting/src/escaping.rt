@@ -1,9 +1,9 @@
 // Hexadecimal digits, and how a byte stands between quotation marks. The Rust's bit masks and its
-// table of letters are decisions on the byte here.
+// array of letters are decisions on the byte here.
 ghost use mathlib.Core.Path.{_≡_};
 ghost use Prim.Native.Nat.{_%_};
 ghost use Rattle.formatting.specs.Hex.{hexDigit};
-ghost use Rattle.formatting.specs.Escape.{escapeOf, isEscaped, isLetter};
+ghost use Rattle.formatting.specs.Escape.{escapeOf, isEscaped, isLetter, letterOf};
 use crate::flags::HexFormatting;
 
 // The ASCII digit of the low four bits of n.
@@ -17,6 +17,29 @@ pub fn hex_as_ascii(n: u8, hex_fmt: HexFormatting) -> u8
     match hex_fmt {
         HexFormatting::Upper => b'A' - 10 + digit,
         HexFormatting::Lower => b'a' - 10 + digit,
+    }
+}
+
+// The letter of a byte's escape.
+pub enum EscapeLetter {
+    // A backslash and this letter stand for the byte.
+    Letter(u8),
+    // The byte has no such escape.
+    None,
+}
+
+// The letter that stands behind a backslash for a byte between quotation marks: six bytes have one.
+pub fn escape_letter(b: u8) -> EscapeLetter
+    ensures { λ r. ⌜ r ≡ letterOf b ⌝ }
+{
+    match b {
+        b'\t' => EscapeLetter::Letter(b't'),
+        b'\n' => EscapeLetter::Letter(b'n'),
+        b'\r' => EscapeLetter::Letter(b'r'),
+        b'\\' => EscapeLetter::Letter(b'\\'),
+        b'\'' => EscapeLetter::Letter(b'\''),
+        b'"' => EscapeLetter::Letter(b'"'),
+        _ => EscapeLetter::None,
     }
 }
 
@@ -34,38 +57,22 @@ pub enum Escape {
 pub fn escape_of(b: u8) -> Escape
     ensures { λ r. ⌜ r ≡ escapeOf b ⌝ }
 {
-    if b == b'\t' {
-        return Escape::Backslash(b't');
+    if !is_escaped(b) {
+        return Escape::Bare;
     }
-    if b == b'\n' {
-        return Escape::Backslash(b'n');
+    match escape_letter(b) {
+        EscapeLetter::Letter(letter) => Escape::Backslash(letter),
+        EscapeLetter::None => Escape::Hexadecimal,
     }
-    if b == b'\r' {
-        return Escape::Backslash(b'r');
-    }
-    if b == b'\\' {
-        return Escape::Backslash(b'\\');
-    }
-    if b == b'\'' {
-        return Escape::Backslash(b'\'');
-    }
-    if b == b'"' {
-        return Escape::Backslash(b'"');
-    }
-    if b < 32 {
-        return Escape::Hexadecimal;
-    }
-    Escape::Bare
 }
 
 // Whether a byte is written as a backslash and a letter.
 pub fn is_backslash_escaped(b: u8) -> bool
     ensures { λ r. ⌜ r ≡ isLetter (escapeOf b) ⌝ }
 {
-    match escape_of(b) {
-        Escape::Bare => false,
-        Escape::Backslash(_) => true,
-        Escape::Hexadecimal => false,
+    match escape_letter(b) {
+        EscapeLetter::Letter(_) => true,
+        EscapeLetter::None => false,
     }
 }
 
@@ -77,9 +84,5 @@ pub fn is_escaped(b: u8) -> bool
     if b'\'' < b {
         return b == b'\\';
     }
-    match escape_of(b) {
-        Escape::Bare => false,
-        Escape::Backslash(_) => true,
-        Escape::Hexadecimal => true,
-    }
+    b < 32 || is_backslash_escaped(b)
 }

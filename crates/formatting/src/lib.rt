@@ -4,6 +4,8 @@ mod flags;
 mod flags_as_number;
 
 pub use escaping::Escape;
+pub use escaping::EscapeLetter;
+pub use escaping::escape_letter;
 pub use escaping::escape_of;
 pub use escaping::hex_as_ascii;
 pub use escaping::is_backslash_escaped;

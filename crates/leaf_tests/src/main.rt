@@ -1,7 +1,8 @@
-// Characters, strings, integers and the UTF-8 test on cases from standard input: one line of fields
+// Characters, escapes, strings, integers and the UTF-8 test on cases from standard input: one line of fields
 // for each case, one line of what the code gives for it. README.md has the forms of the lines.
 mod answers;
 mod chars;
+mod escapes;
 mod integers;
 mod texts;
 
@@ -34,7 +35,9 @@ pub(crate) const BOUNDARY: usize = 5;
 
 pub(crate) const RANGE: usize = 6;
 
-const INTEGER: usize = 8;
+const ESCAPE: usize = 8;
+
+const INTEGER: usize = 9;
 
 // Lays bytes at the cursor as they are.
 pub(crate) fn put_bytes(out: &mut [u8; 8192], at: usize, s: &[u8]) -> usize {
@@ -75,7 +78,7 @@ pub(crate) fn put_template(
 fn put_case(word: &[u8], fields: &[u8], out: &mut [u8; 8192], at: usize) -> usize {
     let kind = place_of(
         word,
-        b"answer,char,integer,utf8,ascii,boundary,range,quoted",
+        b"answer,char,integer,utf8,ascii,boundary,range,quoted,escape",
     );
     if kind == ANSWER {
         return answers::put_answer(fields, out, at);
@@ -85,6 +88,9 @@ fn put_case(word: &[u8], fields: &[u8], out: &mut [u8; 8192], at: usize) -> usiz
     }
     if kind == PARTS {
         return integers::put_parts(fields, out, at);
+    }
+    if kind == ESCAPE {
+        return escapes::put_escape(fields, out, at);
     }
     if kind == INTEGER {
         return integers::put_integer(word, fields, out, at);

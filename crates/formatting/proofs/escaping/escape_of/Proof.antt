@@ -1,41 +1,35 @@
-use borrow.Author.Tests.{lt-ltb, le-ltb, eq-eqb, ne-eqb}
-use Rattle.formatting.specs.Escape.{escapeOf}
+use mathlib.Core.Bool.{true, false}
+use mathlib.Core.Path.{_≡_, sym, _∙_}
+use borrow.Author.Needs.{needs}
+use borrow.Author.Tests.{not-true, not-false}
+use Rattle.formatting.specs.Escape.{escapeOf, isEscaped}
+use Rattle.formatting.proofs.Letters.{bare, lettered, coded}
 use Rattle.formatting.proofs.escaping.escape_of.Statement.{statement}
 use Rattle.formatting.proofs.escaping.escape_of.Tie as tie
 
 returns : tie.Need-returns
-unfolding escapeOf
-returns c = simp (eq-eqb _ _ (c .if1 .taken))
+returns c = sym (bare (escapeOf (c .before .before .args .b)) (sym (c .before .is-escaped .ensures) ∙ not-true (c .before .is-escaped .result) (c .if1 .taken)))
+
+enum-known-letter : tie.Need-enum-known-letter
+enum-known-letter c = search needs
+
+enum-told : tie.Need-enum-told
+enum-told c = search needs
 
 returns-2 : tie.Need-returns-2
-unfolding escapeOf
-returns-2 c = simp (ne-eqb _ _ (c .before .if1 .left), eq-eqb _ _ (c .if2 .taken))
+returns-2 c =
+    let at-letter = c .before .before .before in
+    sym (lettered (at-letter .before .before .before .args .b) _ (sym (at-letter .escape-letter .ensures) ∙ c .before .letter .given .1))
 
 returns-3 : tie.Need-returns-3
-unfolding escapeOf
-returns-3 c = simp (ne-eqb _ _ (c .before .before .if1 .left), ne-eqb _ _ (c .before .if2 .left), eq-eqb _ _ (c .if3 .taken))
-
-returns-4 : tie.Need-returns-4
-unfolding escapeOf
-returns-4 c = simp (ne-eqb _ _ (c .before .before .before .if1 .left), ne-eqb _ _ (c .before .before .if2 .left), ne-eqb _ _ (c .before .if3 .left), eq-eqb _ _ (c .if4 .taken))
-
-returns-5 : tie.Need-returns-5
-unfolding escapeOf
-returns-5 c = simp (ne-eqb _ _ (c .before .before .before .before .if1 .left), ne-eqb _ _ (c .before .before .before .if2 .left), ne-eqb _ _ (c .before .before .if3 .left), ne-eqb _ _ (c .before .if4 .left), eq-eqb _ _ (c .if5 .taken))
-
-returns-6 : tie.Need-returns-6
-unfolding escapeOf
-returns-6 c = simp (ne-eqb _ _ (c .before .before .before .before .before .if1 .left), ne-eqb _ _ (c .before .before .before .before .if2 .left), ne-eqb _ _ (c .before .before .before .if3 .left), ne-eqb _ _ (c .before .before .if4 .left), ne-eqb _ _ (c .before .if5 .left), eq-eqb _ _ (c .if6 .taken))
-
-returns-7 : tie.Need-returns-7
-unfolding escapeOf
-returns-7 c = simp (ne-eqb _ _ (c .before .before .before .before .before .before .if1 .left), ne-eqb _ _ (c .before .before .before .before .before .if2 .left), ne-eqb _ _ (c .before .before .before .before .if3 .left), ne-eqb _ _ (c .before .before .before .if4 .left), ne-eqb _ _ (c .before .before .if5 .left), ne-eqb _ _ (c .before .if6 .left), lt-ltb _ _ (c .if7 .taken))
-
-returns-8 : tie.Need-returns-8
-unfolding escapeOf
-returns-8 c = simp (ne-eqb _ _ (c .before .before .before .before .before .before .if1 .left), ne-eqb _ _ (c .before .before .before .before .before .if2 .left), ne-eqb _ _ (c .before .before .before .before .if3 .left), ne-eqb _ _ (c .before .before .before .if4 .left), ne-eqb _ _ (c .before .before .if5 .left), ne-eqb _ _ (c .before .if6 .left), le-ltb _ _ (c .if7 .left))
+returns-3 c =
+    let at-letter = c .before .before in
+    let at-escaped = at-letter .before .before in
+    sym
+    (coded
+    (at-escaped .before .args .b)
+    (sym (at-letter .escape-letter .ensures) ∙ c .enum-told .given .1)
+    (sym (at-escaped .is-escaped .ensures) ∙ not-false (at-escaped .is-escaped .result) (at-letter .before .if1 .left)))
 
 pub escape-of-spec : {M : Type 1} → statement M
-escape-of-spec =
-    tie.close
-    (tie.spec returns returns-2 returns-3 returns-4 returns-5 returns-6 returns-7 returns-8)
+escape-of-spec = tie.close (tie.spec (λ c κs. search needs) returns (λ c κs. search needs) enum-known-letter enum-told returns-2 returns-3)
