@@ -24,7 +24,7 @@ escapeLetters =
     ∷ (code "\"", code "\"")
     ∷ []
 
--- `found` of what a byte is paired with, or `other` where it is in no pair
+-- a list of pairs read at a byte: `found` of what it is paired with, or `other` where it is in no pair
 abbrev pub pairedWith : {A : Type 0} → (ℕ → A) → A → List (ℕ × ℕ) → ℕ → A
 pairedWith found other [] b = other
 pairedWith found other ((byte, letter) ∷ pairs) b = cond (eqb b byte) (found letter) (pairedWith found other pairs b)
