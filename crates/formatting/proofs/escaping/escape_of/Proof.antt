@@ -1,8 +1,7 @@
-use mathlib.Core.Bool.{true, false}
-use mathlib.Core.Path.{_≡_, sym, _∙_}
+use mathlib.Core.Path.{sym, _∙_}
 use borrow.Author.Needs.{needs}
 use borrow.Author.Tests.{not-true, not-false}
-use Rattle.formatting.specs.Escape.{escapeOf, isEscaped}
+use Rattle.formatting.specs.Escape.{escapeOf}
 use Rattle.formatting.proofs.Letters.{bare, lettered, coded}
 use Rattle.formatting.proofs.escaping.escape_of.Statement.{statement}
 use Rattle.formatting.proofs.escaping.escape_of.Tie as tie
@@ -19,7 +18,8 @@ enum-told c = search needs
 returns-2 : tie.Need-returns-2
 returns-2 c =
     let at-letter = c .before .before .before in
-    sym (lettered (at-letter .before .before .before .args .b) _ (sym (at-letter .escape-letter .ensures) ∙ c .before .letter .given .1))
+    let at-escaped = at-letter .before .before in
+    sym (lettered (at-escaped .before .args .b) _ (sym (at-letter .escape-letter .ensures) ∙ c .before .letter .given .1))
 
 returns-3 : tie.Need-returns-3
 returns-3 c =
