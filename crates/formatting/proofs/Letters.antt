@@ -26,6 +26,7 @@ letters-right =
       other = λ b t n r q a s. rw (ne-eqb b 9 t, ne-eqb b 10 n, ne-eqb b 13 r, ne-eqb b 92 s, ne-eqb b 39 a, ne-eqb b 34 q) refl;
     }
 
+-- a byte that is k has the letter of k
 pub letter-at : (b k : ℕ) {e : EscapeLetter} → letterOf k ≡ e → b ≡ k → e ≡ letterOf b
 letter-at b k h p = rw p (sym h)
 
