@@ -1,5 +1,5 @@
 #!/usr/bin/env python3
-"""Single writes and calls through the lent writer by document 01, with Python's own UTF-8, integers and formats.
+"""Single writes and calls through the lent writer by documents 01 and 02, with Python's own UTF-8, integers and formats.
 
 Reads the cases of writer_tests on standard input and prints what the program must print.
 """
@@ -140,12 +140,12 @@ def put_integer(buf, at, bits, x, base="dec", digits="upper", layout="plain"):
 
 
 def truncated(buf, at, length, is_utf8):
-    """The answer and the cursor ('Beside the record')."""
+    """The answer and the cursor ('Beside the record'; document 02, ticket 2: the end of the text is a boundary)."""
     if at > len(buf):
         return BAD_CURSOR, at
     if length > at:
         return DONE, at
-    if is_utf8 and any(0x80 <= b <= 0xBF for b in buf[length:length + 1]):
+    if is_utf8 and length < at and 0x80 <= buf[length] <= 0xBF:
         return NOT_ON_BOUNDARY, at
     return DONE, length
 

@@ -418,7 +418,7 @@ pub extern "C" fn single_truncate(buf: &[u8], cursor: &mut usize, length: usize)
     answered(cursor, w)
 }
 
-// The same, refused with 3 where the length is inside a character.
+// The same, refused with 3 where the length is no boundary of the text before the cursor; its end is one.
 #[no_mangle]
 pub extern "C" fn single_truncate_utf8(buf: &[u8], cursor: &mut usize, length: usize) -> u8
     ensures { λ r. ⌜ gives r (now (cursor .exit)) (now (buf .entry))

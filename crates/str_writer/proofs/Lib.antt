@@ -6,3 +6,4 @@ pub mod Truncation
 pub mod AsciiText
 pub mod Utf8Text
 pub mod WellFormed
+pub mod TruncatedText

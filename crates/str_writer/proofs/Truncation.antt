@@ -5,7 +5,7 @@ use mathlib.Core.Path.{_≡_, refl}
 use mathlib.Core.List.{List}
 use Prim.Native.Nat.{ℕ, _≤_, _<_}
 use lib.Dec.{ltb}
-use lib.ListN.{length}
+use lib.ListN.{length, take}
 use borrow.Author.Tests.{lt-ltb, le-ltb}
 use Rattle.error.specs.declared.Answer.{Answer}
 use Rattle.error.specs.Answer.{answerOf, isDone}
@@ -24,6 +24,10 @@ module _ (b : List ℕ) (at : ℕ) where
       go : (t : Bool) → _≡_ {A = Written} (record { at = at; answer = answerOf (cond t (some BadCursor) none) }) (cond t (record { at = at; answer = BadCursor }) (record { at = at; answer = Done }))
       go true = refl
       go false = refl
+
+  pub start-fits : at ≤ length b → startAt b at ≡ record { at = at; answer = Done }
+  unfolding startAt
+  start-fits h = simp (le-ltb _ _ h)
 
   module _ (n : ℕ) where
     module _ (x : Answer) (e : x ≡ answerOf (cursorFault b at)) (m : isDone x ≡ false) where
@@ -48,10 +52,7 @@ module _ (b : List ℕ) (at : ℕ) where
       unfolding truncatedUtf8
       utf8-above k = simp (le-ltb _ _ h, lt-ltb _ _ k)
 
-      pub utf8-inside : n ≤ at → isBoundary b n ≡ false → record { at = at; answer = NotOnCharBoundary } ≡ truncatedUtf8 b at n
+      pub utf8-tested : n ≤ at → (x : Bool) → isBoundary (take at b) n ≡ x
+          → cond x (record { at = n; answer = Done }) (record { at = at; answer = NotOnCharBoundary }) ≡ truncatedUtf8 b at n
       unfolding truncatedUtf8
-      utf8-inside k e = rw (le-ltb (length b) at h, le-ltb at n k, e)
-
-      pub utf8-done : n ≤ at → isBoundary b n ≡ true → record { at = n; answer = Done } ≡ truncatedUtf8 b at n
-      unfolding truncatedUtf8
-      utf8-done k e = rw (le-ltb (length b) at h, le-ltb at n k, e)
+      utf8-tested k x e = rw (le-ltb (length b) at h, le-ltb at n k, e)

@@ -14,7 +14,7 @@ use borrow.Author.Tests.{leb-true, lt-ltb, le-ltb, eq-eqb, ne-eqb}
 use Rattle.formatting.specs.declared.escaping.Escape.the-variants.{Bare}
 use Rattle.formatting.specs.Escape.{escapeOf, escaped, quoted}
 use Rattle.utf8.specs.Utf8.{Octets, within, follow, continues, wellFormed}
-use Rattle.utf8.proofs.Grammar.{First, one, two, three, three-E0, three-ED, four, four-F0, four-F4, Said, nothing, first, said, follows, inside, broken}
+use Rattle.utf8.proofs.Grammar.{First, one, two, three, three-E0, three-ED, four, four-F0, four-F4, Said, nothing, first, said, follows, none-low, inside, broken}
 use Rattle.utf8.proofs.Rfc3629.{append}
 use Rattle.utils.specs.declared.Range.{Range}
 use Rattle.utils.specs.Text.{saturated, part, isBoundary}
@@ -129,16 +129,49 @@ module _ (s : List ℕ) (i : ℕ) (e : wellFormed s ≡ true) (k : isBoundary s 
   pub drop-well-formed : wellFormed (drop i s) ≡ true
   drop-well-formed = sym (append (take i s) (drop i s) take-well-formed) ∙ ap wellFormed (take-append-drop i s) ∙ e
 
--- a boundary stays one where the text ends at it or later
-boundary-take : (s : List ℕ) (i j : ℕ) → i ≤ j → j ≤ length s → isBoundary s i ≡ true → isBoundary (take j s) i ≡ true
-boundary-take s i j h k e =
-    dite (decLt i j)
-    (λ l. rw (length-take-le j s k, lt-ltb i j l, getD-take j s i 0 l) (rw (lt-ltb i (length s) (omega arith)) at e))
-    (λ l. rw (length-take-le j s k, le-ltb i j (omega arith), eq-eqb i j (omega arith)))
+-- a well-formed text begins at a boundary
+begins-well-formed : (s : List ℕ) → wellFormed s ≡ true → isBoundary s 0 ≡ true
+unfolding continues
+begins-well-formed [] e = refl
+begins-well-formed (a ∷ s) e =
+    rw (lt-ltb 0 (suc (length s)) (omega arith))
+    (dite (decLt a 0x80)
+    (λ h. rw (lt-ltb a 0x80 h))
+    (λ h. dite (decLt 0xBF a)
+    (λ k. rw (le-ltb a 0x80 (omega arith), lt-ltb 0xBF a k))
+    (λ k. absurd (false≢true (sym (broken s) ∙ rw (none-low a (omega arith) (omega arith)) at e)))))
+
+-- a boundary is the beginning of what stands from it on
+boundary-drop : (s : List ℕ) (i : ℕ) → i ≤ length s → isBoundary s i ≡ isBoundary (drop i s) 0
+boundary-drop s zero h = refl
+boundary-drop [] (suc i) h = absurd (omega (arith, h))
+boundary-drop (a ∷ s) (suc i) h = boundary-suc a s i ∙ boundary-drop s i (omega (arith, h))
+
+-- a place of a well-formed text is a boundary exactly if what stands before it is well-formed
+pub boundary-well-formed : (s : List ℕ) (i : ℕ) → i ≤ length s → wellFormed s ≡ true → isBoundary s i ≡ wellFormed (take i s)
+boundary-well-formed s i h e = go (isBoundary s i) refl (wellFormed (take i s)) refl
+  where
+    go : (x : Bool) → isBoundary s i ≡ x → (y : Bool) → wellFormed (take i s) ≡ y → x ≡ y
+    go true p y q = sym (take-well-formed s i e p) ∙ q
+    go false p false q = refl
+    go false p true q =
+        sym p ∙ boundary-drop s i h
+        ∙ begins-well-formed (drop i s) (sym (append (take i s) (drop i s) q) ∙ ap wellFormed (take-append-drop i s) ∙ e)
+
+-- where a text ends earlier, its end is a boundary, and places before it are what they were
+module _ (s : List ℕ) (j : ℕ) (k : j ≤ length s) where
+  pub boundary-end : isBoundary (take j s) j ≡ true
+  boundary-end = rw (length-take-le j s k, le-ltb j j (omega arith), eq-eqb j j refl)
+
+  pub boundary-inside : (i : ℕ) → i < j → isBoundary (take j s) i ≡ isBoundary s i
+  boundary-inside i l = rw (length-take-le j s k, lt-ltb i j l, getD-take j s i 0 l, lt-ltb i (length s) (omega arith))
+
+  boundary-take : (i : ℕ) → i ≤ j → isBoundary s i ≡ true → isBoundary (take j s) i ≡ true
+  boundary-take i h e = dite (decLt i j) (λ l. boundary-inside i l ∙ e) (λ l. let m : i ≡ j = omega arith in rw m boundary-end)
 
 -- a part that begins and ends at boundaries
 pub part-well-formed : (s : List ℕ) (r : Range) → wellFormed s ≡ true → isBoundary s (saturated s r .start) ≡ true → isBoundary s (saturated s r .end) ≡ true → wellFormed (part s r) ≡ true
 part-well-formed s r e i j =
     drop-well-formed (take (saturated s r .end) s) (saturated s r .start)
     (take-well-formed s (saturated s r .end) e j)
-    (boundary-take s (saturated s r .start) (saturated s r .end) (omega arith) (omega arith) i)
+    (boundary-take s (saturated s r .end) (omega arith) (saturated s r .start) (omega arith) i)

@@ -19,7 +19,7 @@ use Rattle.utils.specs.Text.{saturated, part, isBoundary}
 use Rattle.char_encoding.specs.Char.{charDisplay, charInner, charDebug}
 use Rattle.char_encoding.proofs.Laws.{display-char, inner-low, inner-high, debug-some}
 use Rattle.str_writer.specs.Value.{Form, display, debug, Value, integer, char, str, ascii, repeated, stringText, textOf, inputFault, cutFault, leaves}
-use Rattle.str_writer.specs.Write.{KeepsWellFormed, Outcome, placed, cursorFault, firstOf, unless, write}
+use Rattle.str_writer.specs.Write.{KeepsWellFormed, Outcome, refused, placed, cursorFault, firstOf, unless, write}
 use Rattle.str_writer.proofs.AsciiText.{low-part, low-ascii, low-replicate, low-escape, low-display, low-debug}
 use Rattle.str_writer.proofs.Outcomes.{placed-short, placed-done}
 use Rattle.str_writer.proofs.Utf8Text.{ascii-well-formed, marked-well-formed, quoted-well-formed, part-well-formed}
@@ -74,19 +74,23 @@ module _ (b : List ℕ) (at : ℕ) (k : wellFormed (take at b) ≡ true) where
       (λ x. let m : length (take at b ++ t) ≡ at + length t = rw (length-append, n) in
       rw (← placed-done b at t l h (omega arith), take-at (take at b ++ t) _ (at + length t) m) (append (take at b) t k ∙ e))
 
-  -- a refused call keeps the cursor and the bytes
-  unless-keeps : (x y z : Option Answer) (o : Outcome) → (x ≡ none → y ≡ none → z ≡ none → Kept o) → Kept (unless (firstOf (x ∷ y ∷ z ∷ [])) b at o)
-  unless-keeps none none none o g = g refl refl refl
-  unless-keeps none none (some a) o g = k
-  unless-keeps none (some a) z o g = k
-  unless-keeps (some a) y z o g = k
-
 -- a cursor that is not past the end
 cursor-fits : (b : List ℕ) (at : ℕ) → cursorFault b at ≡ none → at ≤ length b
 cursor-fits b at e = dite (decLt (length b) at) (λ h. absurd (Option·none-ne-some BadCursor (sym (rw (lt-ltb _ _ h) at e)))) (λ h. omega arith)
 
+-- a write is refused, or its text is placed
+module _ (P : Outcome → Type 0) (b : List ℕ) (at : ℕ) (k : (a : Answer) → P (refused a b at)) where
+  unless-either : (x y z : Option Answer) (o : Outcome) → (x ≡ none → y ≡ none → z ≡ none → P o) → P (unless (firstOf (x ∷ y ∷ z ∷ [])) b at o)
+  unless-either none none none o g = g refl refl refl
+  unless-either none none (some a) o g = k a
+  unless-either none (some a) z o g = k a
+  unless-either (some a) y z o g = k a
+
+  pub write-either : (f : FormattingFlags) (v : Value)
+      → (at ≤ length b → inputFault v ≡ none → cutFault v ≡ none → P (placed b at (textOf f v) (leaves (length b - at) v))) → P (write f b at v)
+  unfolding write
+  write-either f v g = unless-either (cursorFault b at) (inputFault v) (cutFault v) _ (λ x y z. g (cursor-fits b at x) y z)
+
 pub write-keeps : KeepsWellFormed
-unfolding write
 write-keeps f b at v k =
-    unless-keeps b at k (cursorFault b at) (inputFault v) (cutFault v) (placed b at (textOf f v) (leaves (length b - at) v))
-    (λ x y z. placed-keeps b at k (textOf f v) (leaves (length b - at) v) (cursor-fits b at x) (text-well-formed f v y z))
+    write-either Kept b at (λ a. k) f v (λ h y z. placed-keeps b at k (textOf f v) (leaves (length b - at) v) h (text-well-formed f v y z))

@@ -91,7 +91,7 @@ pub fn truncate(buf: &[u8], at: usize, length: usize) -> Written
     }
 }
 
-// truncate for Utf8Encoding.
+// truncate for Utf8Encoding: 3 for a length that is no boundary of the text before the cursor; its end is one.
 pub fn truncate_utf8(buf: &[u8], at: usize, length: usize) -> Written
     ensures { λ r. ⌜ r ≡ truncatedUtf8 (now (buf .entry)) at length ⌝ }
 {
@@ -105,7 +105,8 @@ pub fn truncate_utf8(buf: &[u8], at: usize, length: usize) -> Written
             answer: Answer::Done,
         };
     }
-    if !is_char_boundary(buf, length) {
+    let text = as_bytes(buf, at);
+    if !is_char_boundary(text, length) {
         return Written {
             at,
             answer: Answer::NotOnCharBoundary,

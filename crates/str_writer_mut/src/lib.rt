@@ -85,7 +85,7 @@ impl<'w> StrWriterMut<'w> {
         r.answer
     }
 
-    // truncate for Utf8Encoding.
+    // truncate for Utf8Encoding: 3 for a length that is no boundary of the text, whose end is one.
     pub fn truncate_utf8(&mut self, length: usize) -> Answer
         ensures { λ r. ⌜ Gives r (now (self .entry)) (now (self .exit))
             (outcome (truncatedUtf8 (now (now (self .entry) .buffer)) (now (self .entry) .len) length) (now (now (self .entry) .buffer))) ⌝ }

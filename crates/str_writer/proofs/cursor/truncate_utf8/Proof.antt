@@ -1,10 +1,15 @@
-use mathlib.Core.Path.{refl, sym, _∙_}
-use Prim.Native.Nat.{_≤_}
+use mathlib.Core.Bool.{Bool, true, false, cond}
+use mathlib.Core.List.{List}
+use mathlib.Core.Path.{_≡_, refl, sym, ap, _∙_}
+use Prim.Native.Nat.{ℕ, _≤_}
 use lib.ListN.{length}
 use borrow.Author.Tests.{not-true, not-false}
 use borrow.Author.Needs.{needs}
+use Rattle.error.specs.declared.Answer.the-variants.{Done, NotOnCharBoundary}
+use Rattle.utils.specs.Text.{isBoundary}
+use Rattle.str_writer.specs.Truncate.{truncatedUtf8}
 use Rattle.str_writer.proofs.Judging.{cursor-fits}
-use Rattle.str_writer.proofs.Truncation.{utf8-met, utf8-above, utf8-inside, utf8-done}
+use Rattle.str_writer.proofs.Truncation.{utf8-met, utf8-above, utf8-tested}
 use Rattle.str_writer.proofs.cursor.truncate_utf8.Statement.{statement}
 use Rattle.str_writer.proofs.cursor.truncate_utf8.Tie as tie
 
@@ -34,22 +39,26 @@ returns-2 c =
     let a = start (c .before) .args in
     utf8-above (a .buf .now) (a .at) (a .length) (fits (c .before)) (c .if2 .taken)
 
+as-bytes-requires : tie.Need-as-bytes-requires
+as-bytes-requires c κs = search needs
+
 is-char-boundary-requires : tie.Need-is-char-boundary-requires
 is-char-boundary-requires c κs = search needs
 
+-- the boundaries of the text before the cursor decide
+decided : (c : tie.After-is-char-boundary) (x : Bool) → c .is-char-boundary .result ≡ x → let a = start (c .before .before .before) .args in
+    cond x (record { at = a .length; answer = Done }) (record { at = a .at; answer = NotOnCharBoundary }) ≡ truncatedUtf8 (a .buf .now) (a .at) (a .length)
+decided c x e =
+    let d = c .before .before in
+    let a = start (d .before) .args in
+    utf8-tested (a .buf .now) (a .at) (a .length) (fits (d .before)) (d .if2 .left) x
+    (ap (λ (t : List ℕ). isBoundary t (a .length)) (sym (c .before .as-bytes .ensures)) ∙ sym (c .is-char-boundary .ensures) ∙ e)
+
 returns-3 : tie.Need-returns-3
-returns-3 c =
-    let d = c .before .before .before in
-    let a = start d .args in
-    utf8-inside (a .buf .now) (a .at) (a .length) (fits d) (c .before .before .if2 .left)
-    (sym (c .before .is-char-boundary .ensures) ∙ not-true _ (c .if3 .taken))
+returns-3 c = decided (c .before) false (not-true _ (c .if3 .taken))
 
 returns-4 : tie.Need-returns-4
-returns-4 c =
-    let d = c .before .before .before in
-    let a = start d .args in
-    utf8-done (a .buf .now) (a .at) (a .length) (fits d) (c .before .before .if2 .left)
-    (sym (c .before .is-char-boundary .ensures) ∙ not-false _ (c .if3 .left))
+returns-4 c = decided (c .before) true (not-false _ (c .if3 .left))
 
 pub truncate-utf8-spec : {M : Type 1} → statement M
 truncate-utf8-spec =
@@ -59,6 +68,7 @@ truncate-utf8-spec =
     is-done-requires
     returns
     returns-2
+    as-bytes-requires
     is-char-boundary-requires
     returns-3
     returns-4)
