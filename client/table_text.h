@@ -33,9 +33,9 @@ uint8_t table_text_count(uint64_t flags, const uint64_t *calls, size_t calls_len
 
 /* Writes a run into buf from place *cursor on: the place after it is left in *cursor.
  *
- * Where the answer is not 0, the bytes before the place that *cursor was are as they were, and those
- * from there on are not to be sent: pieces of later calls may stand there, and a quoted text that is
- * refused with 1 may leave its first bytes behind the cursor. */
+ * Whatever the answer, only bytes from the place that *cursor was to the place that it is can have
+ * changed: all before and all behind are as they were. Where the answer is not 0, what stands between
+ * is not to be sent: pieces of later calls may stand there. */
 uint8_t table_text_write(uint64_t flags, uint8_t *buf, size_t buf_len, size_t *cursor,
                          const uint64_t *calls, size_t calls_len,
                          const uint8_t *text, size_t text_len);

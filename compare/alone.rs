@@ -91,8 +91,9 @@ fn given(words: &Encoded, flags: u64, before: &[u8], at: usize, less: usize) -> 
 }
 
 /// Whether what was given is right: answers of document 01, the cursor moved forward inside the
-/// buffer over well-formed UTF-8, and no byte before it changed. A cursor past the buffer is 9
-/// throughout. Flags from 12 on are refused with 8, after 9, and nothing is played.
+/// buffer over well-formed UTF-8, and no byte changed before where it was or from where it is on. A
+/// cursor past the buffer is 9 throughout. Flags from 12 on are refused with 8, after 9, and nothing
+/// is played.
 fn right(g: &Given, calls: &[u64], flags: u64, before: &[u8], at: usize) -> bool {
     let ([counted, _], [written, _], bytes) = (&g.counted, &g.written, &g.buffers[0]);
     let n = calls.len() / 5;
@@ -118,6 +119,7 @@ fn right(g: &Given, calls: &[u64], flags: u64, before: &[u8], at: usize) -> bool
     at <= cursor
         && cursor <= before.len()
         && bytes[..at] == before[..at]
+        && bytes[cursor..] == before[cursor..]
         && std::str::from_utf8(&bytes[at..cursor]).is_ok()
 }
 

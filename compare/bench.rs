@@ -124,6 +124,37 @@ macro_rules! single {
     }};
 }
 
+/// The rows of a quoted string.
+macro_rules! quoted {
+    ($name:expr, $s:expr) => {
+        single!(
+            $name,
+            write_str_debug,
+            count_str_debug,
+            $s,
+            |s: &'static str| s.as_bytes()
+        )
+    };
+}
+
+/// The row of a quoted string of 256 bytes, 8 of them escaped by a letter, that is refused: written at
+/// cursor 3 of a buffer one byte too short for it.
+fn refused(s: &'static str) {
+    let mut buf = vec![0u8; 3 + s.len() + 8 + 1];
+    let mut same = buf.clone();
+    row(
+        "quoted string of 256 bytes, 8 escapes, refused",
+        || {
+            let mut cursor = 3;
+            library::write_str_debug(black_box(&mut buf), &mut cursor, black_box(s).as_bytes()) - 1
+        },
+        || {
+            let mut cursor = 3;
+            write_str_debug(black_box(&mut same), &mut cursor, black_box(s)) - 1
+        },
+    );
+}
+
 /// A panel with its cuts: names and values are data on both sides.
 struct Panel {
     names: [&'static str; 9],
@@ -418,7 +449,7 @@ fn growth() {
         }
         println!("| {name} | {:.1} | {:.1} |", a / per, b / per);
     };
-    for n in [0usize, 16, 64, 256, 1024, 4096] {
+    for n in [0usize, 8, 16, 64, 256, 1024, 4096] {
         for debug in [false, true] {
             let form = if debug { "quoted string" } else { "string" };
             let s = "m".repeat(n);
@@ -516,20 +547,14 @@ fn main() {
     single!("string of 256 bytes", write_str, count_str, long, bytes);
     let escapes = "mmmmmmmmmm\nmmmmmmmmmmmm\"mmmmmmmm";
     assert_eq!(escapes.len(), 32);
-    single!(
-        "quoted string of 32 bytes, 2 escapes",
-        write_str_debug,
-        count_str_debug,
-        escapes,
-        bytes
-    );
-    single!(
-        "quoted string of 256 bytes, no escape",
-        write_str_debug,
-        count_str_debug,
-        long,
-        bytes
-    );
+    quoted!("quoted string of 0 bytes", "");
+    quoted!("quoted string of 8 bytes, no escape", &long[..8]);
+    quoted!("quoted string of 8 bytes, 1 escape", "mmm\"mmmm");
+    quoted!("quoted string of 32 bytes, 2 escapes", escapes);
+    quoted!("quoted string of 256 bytes, no escape", long);
+    let some = Box::leak(format!("{}\"", &long[..31]).repeat(8).into_boxed_str());
+    quoted!("quoted string of 256 bytes, 8 escapes", &*some);
+    refused(some);
     let code = |c: char| c as u32;
     single!("character of 1 byte", write_char, count_char, 'q', code);
     single!("character of 2 bytes", write_char, count_char, 'é', code);

@@ -1,7 +1,8 @@
 //! Runs of calls, single writes and truncations through const_format and through our static
 //! libraries. Small inputs are tried whole, the rest by chance from a seed. Compared are the answer
 //! to every call, the total or cursor, the open entries, the margin, and every byte of the buffer,
-//! which has non-zero contents before.
+//! which has non-zero contents before. After a quoted text that was refused with 1 the Rust is the
+//! reference before the cursor only: from there on our buffer must be what it was.
 //!
 //! compare SEED COUNT: compares, with COUNT runs by chance. compare --sample COUNT SEED: prints runs
 //! with const_format's answers, one to a line, for crates/rust_replay.
@@ -35,6 +36,8 @@ struct Tally {
     left_high: u64,
     left_out: u64,
     left_out_wrong: u64,
+    quoted_refused: u64,
+    strays: u64,
 }
 
 impl Tally {
@@ -58,6 +61,40 @@ impl Tally {
 /// A buffer with non-zero contents.
 fn contents(size: usize) -> Vec<u8> {
     (0..size).map(|i| (i * 37 + 91) as u8).collect()
+}
+
+/// Whether a call's value is a quoted string or quoted ASCII text.
+fn is_quoted_text(call: &Call) -> bool {
+    matches!(
+        call,
+        Call::Value(Value::Str { debug: true, .. } | Value::Ascii { debug: true, .. })
+    )
+}
+
+/// Whether a quoted text of a run was refused with 1: the Rust may then leave bytes past the cursor,
+/// and is no reference there (document 02, ticket 5).
+fn is_quoted_refused(run: &[Call], answers: &[u8]) -> bool {
+    run.iter()
+        .zip(answers)
+        .any(|(call, answer)| *answer == 1 && is_quoted_text(call))
+}
+
+/// The buffer as const_format left it before the cursor, and as it was from there on.
+fn without_strays(mut bytes: Vec<u8>, cursor: usize) -> Vec<u8> {
+    let before = contents(bytes.len());
+    bytes[cursor..].copy_from_slice(&before[cursor..]);
+    bytes
+}
+
+/// The buffer that ours should leave where const_format left these bytes.
+fn expected(t: &mut Tally, bytes: Vec<u8>, cursor: usize, quoted_refused: bool) -> Vec<u8> {
+    if !quoted_refused {
+        return bytes;
+    }
+    let cleared = without_strays(bytes.clone(), cursor);
+    t.quoted_refused += 1;
+    t.strays += (cleared != bytes) as u64;
+    cleared
 }
 
 /// The buffer sizes around a text of n bytes from a cursor on.
@@ -135,6 +172,8 @@ fn compare_write(t: &mut Tally, run: &[Call], words: &Encoded, flags: u64, size:
         .count()
         .saturating_sub(1) as u64;
     t.open += (theirs.open > 0) as u64;
+    let quoted_refused = is_quoted_refused(run, &theirs.answers);
+    let bytes = expected(t, bytes, theirs.number, quoted_refused);
     let mut ours = contents(size);
     let r = library::write(flags, &words.calls, &words.text, &mut ours, at);
     t.same(
@@ -239,6 +278,8 @@ fn compare_single(t: &mut Tally, v: &Value, flags: u64, size: usize, at: usize) 
     let r = single(v, flags, &mut ours, at);
     let q = rust_single(v, flags, &mut theirs, at);
     t.refused[q.0.min(9) as usize] += 1;
+    let quoted_refused = q.0 == 1 && is_quoted_text(&Call::Value(v.clone()));
+    let theirs = expected(t, theirs, q.1, quoted_refused);
     t.same(
         (r, ours),
         (q, theirs),
@@ -572,7 +613,8 @@ fn hex(bytes: &[u8]) -> String {
 
 /// Prints runs with const_format's answers, their fields parted by commas: flags, cursor, size of the
 /// buffer, how many words, the words, the texts in hexadecimal, the first refusal and the total of
-/// counting, the first refusal and the cursor of writing, and the buffer in hexadecimal.
+/// counting, the first refusal and the cursor of writing, and the buffer in hexadecimal, after a
+/// refused quoted text as it was from the cursor on.
 fn sample(r: &mut Random, count: u64) {
     let mut printed = 0;
     while printed < count {
@@ -588,6 +630,9 @@ fn sample(r: &mut Random, count: u64) {
         }
         let mut b = contents(size);
         let written = rust_write(&run, flags, &mut b, at);
+        if is_quoted_refused(&run, &written.answers) {
+            b = without_strays(b, written.number);
+        }
         let numbers: Vec<String> = words.calls.iter().map(u64::to_string).collect();
         println!(
             "{flags},{at},{size},{},{},{},{},{total},{},{},{}",
@@ -642,6 +687,10 @@ fn print_tally(t: &Tally) {
     println!(
         "truncations left out: {} to the cursor before a byte 80 to BF, ours alone: {} wrong",
         t.left_out, t.left_out_wrong
+    );
+    println!(
+        "writes compared before the cursor only: {} with a quoted text refused with 1, of which const_format left bytes past the cursor in {}",
+        t.quoted_refused, t.strays
     );
 }
 

@@ -65,9 +65,8 @@ impl Run {
 
     /// Writes the text of the run from place `at` of the buffer on, and gives the place after it.
     ///
-    /// Where it is refused, the bytes before `at` are as they were, and those from `at` on are not to
-    /// be sent: the calls after a refused one are written all the same, and a quoted text that is
-    /// refused with 1 may leave its first bytes behind the cursor.
+    /// Refused or not, only bytes from `at` to the place where it ended can have changed. Where it is
+    /// refused, these are not to be sent: the calls after a refused one are written all the same.
     pub fn write(&self, buf: &mut [u8], at: usize) -> Result<usize, RunError> {
         self.closed()?;
         let mut cursor = at;

@@ -123,8 +123,8 @@ fn every_answer_is_given() {
     assert_eq!(&buf, b".abc..");
 }
 
-/// The bytes before the start are kept; pieces of later calls, and the first bytes of a quoted text
-/// with an escape that does not fit, are found behind it.
+/// The bytes before the start are kept, and those from the end on: a quoted text with an escape that
+/// does not fit leaves none of its own. Pieces of later calls are found between.
 #[test]
 fn what_a_refusal_leaves_in_the_buffer() {
     let mut run = Run::new(NEW);
@@ -136,7 +136,7 @@ fn what_a_refusal_leaves_in_the_buffer() {
         run.write(&mut buf, 2),
         refused(Error::NotEnoughSpace, Some((0, Call::Str)), 4)
     );
-    assert_eq!(&buf, b"..ok\"a\\.");
+    assert_eq!(&buf, b"..ok....");
 }
 
 #[test]
@@ -181,6 +181,7 @@ fn a_run_that_is_played_again_leaves_the_same() {
             assert_eq!(refused.call.map(|call| call.0), place);
             assert_eq!(once, twice);
             assert_eq!(&once[..3], b"...");
+            assert!(once[each.number..].iter().all(|byte| *byte == b'.'));
         }
     }
 }

@@ -1,4 +1,5 @@
-"""What the cases of run_tests print, by a model of runs that is written from document 01:
+"""What the cases of run_tests print, by a model of runs that is written from document 01 and ticket 5
+of document 02:
 
     python3 crates/run_tests/expected.py < crates/run_tests/stdin > crates/run_tests/stdout
 
@@ -43,9 +44,6 @@ class Counter:
             raise Refused(6)
         self.number += len(text) * times
 
-    def put_quoted(self, text):
-        self.put(quoted(text, b'"'))
-
 
 class Buffer:
     """Dots, and a cursor."""
@@ -68,21 +66,6 @@ class Buffer:
             raise Refused(1)
         self.bytes[self.number:end] = text * times
         self.number = end
-
-    def put_quoted(self, text):
-        """Text plus 2 fits or nothing is touched; then each escape spends of what is left."""
-        left = len(self.bytes) - self.number - len(text) - 2
-        if left < 0:
-            raise Refused(1)
-        done = b'"'
-        for byte in text:
-            left -= len(escaped(byte)) - 1
-            if left < 0:
-                done += b"\\"
-                self.bytes[self.number:self.number + len(done)] = done
-                raise Refused(1)
-            done += escaped(byte)
-        self.put(done + b'"')
 
 
 def escaped(byte):
@@ -178,7 +161,8 @@ class Formatter:
         end = min(end, len(text))
         start = min(start, end)
         self.out.check_boundaries(text, (start, end))
-        (self.out.put_quoted if debug else self.out.put)(text[start:end])
+        part = text[start:end]
+        self.out.put(quoted(part, b'"') if debug else part)
 
     def char(self, code, debug):
         if 0xD800 <= code <= 0xDFFF or code > 0x10FFFF:

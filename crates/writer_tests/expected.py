@@ -75,17 +75,8 @@ def escaped(b):
     return b"\\x%02X" % b if b < 32 else bytes([b])
 
 
-def quoted(s, room):
-    """The quoted string, and what it leaves where it is refused with 1."""
-    body = b'"' + b"".join(map(escaped, s)) + b'"'
-    spare = room - (len(s) + 2)
-    if spare < 0:
-        return body, b""
-    for i, b in enumerate(s):
-        spare -= len(escaped(b)) - 1
-        if spare < 0:
-            return body, b'"' + b"".join(map(escaped, s[:i])) + b"\\"
-    return body, b""
+def quoted(s):
+    return b'"' + b"".join(map(escaped, s)) + b'"'
 
 
 def refusal_of(kind, s, start, end):
@@ -99,14 +90,15 @@ def refusal_of(kind, s, start, end):
 
 # ---- what a write does
 
-def put(buf, at, refusal, body, leaves=b""):
-    """The answer, the cursor and the buffer after it ('The answer to a call')."""
+def put(buf, at, refusal, body):
+    """The answer, the cursor and the buffer after it ('The answer to a call'; document 02, ticket 5: a
+    refused quoted text too leaves every byte)."""
     if at > len(buf):
         return BAD_CURSOR, at, buf
     if refusal:
         return refusal, at, buf
     if at + len(body) > len(buf):
-        return NOT_ENOUGH_SPACE, at, buf[:at] + leaves + buf[at + len(leaves):]
+        return NOT_ENOUGH_SPACE, at, buf
     return DONE, at + len(body), buf[:at] + body + buf[at + len(body):]
 
 
@@ -114,8 +106,7 @@ def put_text(buf, at, kind, is_debug, s, start=0, end=MOST):
     end = min(end, len(s))
     start = min(start, end)
     refusal = refusal_of(kind, s, start, end)
-    body, leaves = quoted(s[start:end], len(buf) - at) if is_debug else (s[start:end], b"")
-    return put(buf, at, refusal, body, leaves)
+    return put(buf, at, refusal, quoted(s[start:end]) if is_debug else s[start:end])
 
 
 def put_char(buf, at, is_debug, c):

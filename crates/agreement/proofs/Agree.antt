@@ -5,15 +5,17 @@ use Prim.Native.Nat.{ℕ, zero, suc, _+_, _≤_}
 use native.Mathlib.Nat.{add-zero, zero-add}
 use native.Mathlib.Decide.{decLe}
 use native.Mathlib.Omega.{arith}
-use lib.ListN.{length, take}
+use lib.ListN.{length}
 use Rattle.str_writer.proofs.Splice.{splice-nil}
 use Rattle.calls.specs.declared.Settings.{Settings}
 use Rattle.calls.specs.Call.{Call}
 use Rattle.calls.specs.Ledger.{Ledger, feed, ledger, fresh, Permitted}
 use Rattle.calls.specs.Model.{Mode, numberIn, counting, writing, State, Run, cutIn, run, start, most}
+use Rattle.agreement.specs.Untouched.{OnlyBetween}
 use Rattle.agreement.specs.Agreement.{AllDone, firstRefusal, AllWhole, Proper, definedText, written, Counted, Written, Demand3}
-use Rattle.agreement.proofs.Output.{capOf, codeOf, Fits, Passes, Kept, kept-start}
-use Rattle.agreement.proofs.Moves.{run-kept, AllUncut, stateOf, faults, run-law}
+use Rattle.agreement.proofs.Output.{capOf, codeOf, Fits, Passes}
+use Rattle.agreement.proofs.Moves.{AllUncut, stateOf, faults, run-law}
+use Rattle.agreement.proofs.Rest.{rest-untouched, rest-written}
 use Rattle.agreement.proofs.Held.{holds-open, Tracks, clear, stuck, Ends, met, refused, ended, ends}
 
 -- the first refusal is 0 where every answer is, and only there
@@ -88,22 +90,16 @@ module _ (S : Settings) (cs : List Call) (P : Proper S cs) where
         bytes = λ k. ap (λ (r : Run). r .state .output .bytes) (fits-run S cs P (writing p) b k);
         closed = fits-closed S cs P (writing p) b;
         refused = first-refused S cs P (writing p) b h;
-        before = kept .1;
-        size = kept .0;
+        before = rest .before;
+        size = rest .size;
       }
     where
       done-fits : AllDone (written S cs b p .answers) → Dec (p + length (definedText S cs) ≤ length b) → p + length (definedText S cs) ≤ length b
       done-fits d (yes k) = k
       done-fits d (no k) = absurd (omega (arith, first-refused S cs P (writing p) b h (omega arith), done-first (written S cs b p .answers) d))
 
-      kept-bytes : (m : Mode) (c : List ℕ) → Kept (writing p) b m c → (length c ≡ length b) × (take p c ≡ take p b)
-      kept-bytes (counting n) c k = absurd k
-      kept-bytes (writing n) c k = (k .2, k .3)
-
-      kept : (length (written S cs b p .state .output .bytes) ≡ length b) × (take p (written S cs b p .state .output .bytes) ≡ take p b)
-      kept =
-          kept-bytes (written S cs b p .state .output .mode) (written S cs b p .state .output .bytes)
-          (run-kept (writing p) b (start (writing p) b S) cs (kept-start (writing p) b h))
+      rest : OnlyBetween b p (written S cs b p .state .output .bytes) (numberIn (written S cs b p .state .output .mode))
+      rest = rest-written p b (written S cs b p .state .output .mode) (written S cs b p .state .output .bytes) (rest-untouched (start (writing p) b S) cs)
 
 pub agree : Demand3
 agree S cs P h = (counted-agrees S cs P h, written-agrees S cs P)

@@ -8,14 +8,13 @@ use native.Mathlib.Decide.{decLe}
 use native.Mathlib.Omega.{arith}
 use lib.ListN.{length}
 use Rattle.formatting.specs.declared.flags.FormattingFlags.{FormattingFlags}
-use Rattle.str_writer.specs.Value.{textOf, leaves}
+use Rattle.str_writer.specs.Value.{textOf}
 use Rattle.calls.specs.Call.{Place, Call, opens, place, value, sub, endsub, finish, openPieces, placePieces, closePieces}
 use Rattle.calls.specs.Ledger.{Open, building, within, Ledger, marginOf, top, hasPrinted, meets, change, changed, feed, ledger, Permitted}
 use Rattle.calls.specs.Ledger.{Builder as Having}
-use Rattle.calls.specs.Model.{Mode, numberIn, counting, writing, Output, putValue, tries, stops, emitClose, Entry, builder, outer, State, Out, inner, faultOf, guard, Run, run}
+use Rattle.calls.specs.Model.{Mode, numberIn, counting, writing, Output, put, tries, stops, emitClose, Entry, builder, outer, State, Out, inner, faultOf, guard, Run, run}
 use Rattle.agreement.specs.Agreement.{firstRefusal}
 use Rattle.agreement.proofs.Output.{capOf, codeOf, after, Fits, Passes, put-over, tries-over, stops-answer, hold-code, Coded, Kept, KeptIn, kept-after, put-kept, put-coded, tries-coded}
-use Rattle.agreement.proofs.Leaves.{leaves-fit}
 use Rattle.agreement.proofs.Keeping.{tries-keep, stops-keep}
 use Rattle.agreement.proofs.Moves.{holding, depth, raised, lower, Uncut, AllUncut, fault-law, stateOf, does, does-law, same-fault}
 
@@ -100,10 +99,10 @@ module _ (m : Mode) (b : List ℕ) where
     stays p s (opens t name) h z =
         inr (refl, rw (raised p) (stuck _ f _ (tries-kept d (openPieces t name) k) (holds-coded (record { kind = t; hasField = false }) p s _ (tries-coded m b d (openPieces t name) k) h)))
     stays p s (place x) h z = stays-place x h z
-    stays p s (value v) h z = go (put-coded m b d (textOf f v) (λ n. leaves n v) k)
+    stays p s (value v) h z = go (put-coded m b d (textOf f v) k)
       where
-        go : Coded m (putValue d f v .answer) → Stays p s (value v)
-        go (inl e) = inr (e, stuck _ f s (put-kept m b (d .mode) (d .bytes) (textOf f v) (λ n. leaves n v) (λ n. leaves-fit n v) k) h)
+        go : Coded m (put d (textOf f v) .answer) → Stays p s (value v)
+        go (inl e) = inr (e, stuck _ f s (put-kept m b (d .mode) (d .bytes) (textOf f v) k) h)
         go (inr e) = inl e
     stays p s (sub t) h z = inr (refl, stuck d t _ k (under g f p s h))
     stays p s endsub h z = stays-endsub h z
@@ -143,7 +142,7 @@ module _ (m : Mode) (b : List ℕ) where
     over p (opens k name) h =
         inr (refl, rw (tries-over b m ts (openPieces k name) j h, raised p) (stuck _ f _ (tries-kept _ (openPieces k name) (kept-after m b ts j)) (here _ p _ (depth p))))
     over p (place x) h = over-place p x h
-    over p (value v) h = inl (put-over b m ts (textOf f v) (λ n. leaves n v) j h)
+    over p (value v) h = inl (put-over b m ts (textOf f v) j h)
     over p (sub g) h = absurd (no-piece h)
     over p endsub h = over-endsub p h
     over p finish h = over-finish p h

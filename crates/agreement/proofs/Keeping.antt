@@ -1,13 +1,10 @@
 -- What each piece keeps of the output, whatever its text, each call keeps, and each list of calls.
 use mathlib.Core.Bool.{Bool, true, false}
 use mathlib.Core.List.{List, [], _∷_}
-use Prim.Native.Nat.{ℕ, zero, suc, _-_, _≤_}
-use native.Mathlib.Omega.{arith}
-use lib.ListN.{length}
-use Rattle.str_writer.specs.Value.{textOf, leaves}
+use Prim.Native.Nat.{ℕ, zero, suc, _-_}
+use Rattle.str_writer.specs.Value.{textOf}
 use Rattle.calls.specs.Call.{Place, Call, opens, place, value, sub, endsub, finish, openPieces, placePieces, closePieces}
 use Rattle.calls.specs.Model.{Mode, Output, PieceOutcome, putIn, put, tries, goOn, stops, hasPrinted, Entry, builder, outer, State, Out, faultOf, Moved, move, emitPlace, emitClose, emitFinish, emit, holds, settled, guard, step, run}
-use Rattle.agreement.proofs.Leaves.{leaves-fit}
 
 pub guard-cases : (Q : State → Type 0) (n : ℕ) (F : State) (o : Out) → Q F → Q (o .state) → Q (guard n F o .state)
 guard-cases Q zero F o a b = b
@@ -24,10 +21,9 @@ module _ (P : Mode → List ℕ → Type 0) where
   settled-keep true M r k = k
   settled-keep false M r k = k
 
-  -- a piece leaves no more than there is room for
-  module _ (keeps : (m : Mode) (b t : List ℕ) (l : ℕ → List ℕ) → ((n : ℕ) → length (l n) ≤ n) → P m b → On (putIn m b t l .output)) where
+  module _ (keeps : (m : Mode) (b t : List ℕ) → P m b → On (putIn m b t .output)) where
     put-keep : (d : Output) (t : List ℕ) → On d → On (put d t .output)
-    put-keep d t h = keeps (d .mode) (d .bytes) t (λ n. []) (λ n. omega arith) h
+    put-keep d t h = keeps (d .mode) (d .bytes) t h
 
     pub tries-keep : (d : Output) (ts : List (List ℕ)) → On d → On (tries d ts .output)
     tries-keep d [] h = h
@@ -58,7 +54,7 @@ module _ (P : Mode → List ℕ → Type 0) where
     emit-keep : (F : State) (c : Call) → In F → On (emit F c .output)
     emit-keep F (opens k name) h = tries-keep (F .output) (openPieces k name) h
     emit-keep F (place x) h = place-keep F x (F .stack) h
-    emit-keep F (value v) h = keeps (F .output .mode) (F .output .bytes) (textOf (F .flags) v) (λ n. leaves n v) (λ n. leaves-fit n v) h
+    emit-keep F (value v) h = put-keep (F .output) (textOf (F .flags) v) h
     emit-keep F (sub f) h = h
     emit-keep F endsub h = h
     emit-keep F finish h = finish-keep F (F .stack) h

@@ -1,6 +1,6 @@
-pub mod Leaves
 pub mod Output
 pub mod Keeping
+pub mod Rest
 pub mod Moves
 pub mod Held
 pub mod Agree

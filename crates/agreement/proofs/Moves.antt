@@ -5,7 +5,7 @@ use Prim.Native.Nat.{ℕ, zero, suc, _+_, _-_, _*_}
 use native.Mathlib.Omega.{arith}
 use lib.ListN.{length}
 use Rattle.formatting.specs.declared.flags.FormattingFlags.{FormattingFlags}
-use Rattle.str_writer.specs.Value.{textOf, leaves}
+use Rattle.str_writer.specs.Value.{textOf}
 use Rattle.calls.specs.Call.{Place, Call, opens, place, value, sub, endsub, finish, openPieces, placePieces, closePieces, cutNumber, hold}
 use Rattle.calls.specs.Ledger.{Open, building, within, Ledger, builders, marginOf, top, hasPrinted, meets, change, changed, unlessMet, feed, ledger}
 use Rattle.calls.specs.Ledger.{Builder as Having}
@@ -84,7 +84,7 @@ module _ (m : Mode) (b : List ℕ) where
   pub fault-law : (F : State) (L : Ledger) (c : Call) → KeptIn m b (F .output) → F .margin ≡ marginOf (L .pile) → inner (F .stack) ≡ top (L .pile) → length (F .stack) ≡ length (L .pile)
       → Uncut m c → faultOf F c ≡ meets L c
   fault-law F L c k g i l w =
-      rw (inside m b (F .output .mode) (F .output .bytes) k, same-cut m b (F .output .mode) (F .output .bytes) (cutNumber c) k, w, g, i, l) (hold-zero (meets L c))
+      rw (inside (F .output .mode) (F .output .bytes) (k .1), same-cut m b (F .output .mode) (F .output .bytes) (cutNumber c) k, w, g, i, l) (hold-zero (meets L c))
 
   fits-before : (L : Ledger) (cs : List Call) → Fits m b (ledger L cs .pieces) → Fits m b (L .pieces)
   fits-before L cs h = let g = grows L cs in fits-left m b (L .pieces) (g .0) (rw (g .1) at h)
@@ -118,7 +118,7 @@ module _ (m : Mode) (b : List ℕ) where
   pub does-law : (L : Ledger) (c : Call) → meets L c ≡ 0 → Fits m b (changed L (change L c) .pieces) → Follows L c
   does-law L (opens k name) e h = rw (tries-law b m (L .pieces) (openPieces k name) h, raised (L .pile))
   does-law L (place x) e h = does-place (L .flags) (L .pieces) (L .pile) x e h
-  does-law L (value v) e h = rw (put-law b m (L .pieces) (textOf (L .flags) v) (λ n. leaves n v) h)
+  does-law L (value v) e h = rw (put-law b m (L .pieces) (textOf (L .flags) v) h)
   does-law L (sub f) e h = rw append-nil
   does-law L endsub e h = does-endsub (L .flags) (L .pieces) (L .pile) e
   does-law L finish e h = does-finish (L .flags) (L .pieces) (L .pile) e h

@@ -1,1 +1,2 @@
+pub mod Untouched
 pub mod Agreement

@@ -13,8 +13,7 @@ use Rattle.formatting.specs.Flags.{defaultFlags, withAlternate, withHex}
 use Rattle.formatting.specs.Escape.{escapeOf, escaped}
 use Rattle.utf8.specs.Utf8.{continues, follow}
 use Rattle.pwrapper.specs.Digits.{digitText, digits, digitsIn}
-use Rattle.str_writer.specs.QuotedLeaves.{leading, quotedLeaves}
-use Rattle.str_writer.specs.Value.{display, debug, integer, char, str, whole, textOf, inputFault, cutFault, leaves}
+use Rattle.str_writer.specs.Value.{display, debug, integer, char, str, whole, textOf, inputFault, cutFault}
 use Rattle.str_writer.specs.Write.{placed}
 use Rattle.calls.specs.declared.Kind.{Kind}
 use Rattle.calls.specs.declared.Kind.the-variants.{Struct, Tuple, List as ListKind, Set}
@@ -60,41 +59,41 @@ Texts S k x y a b c =
 
 -- each separator, label and closing of the four kinds
 structs : Texts plain Struct (name "x") (name "y") "P" "P { x: 7 }" "P { x: 7, y: 8 }"
-unfolding flatten textOf inputFault cutFault leaves placed continues follow digitText digits digitsIn
+unfolding flatten textOf inputFault cutFault placed continues follow digitText digits digitsIn
 structs = ((refl, refl, refl, refl), (refl, refl, refl, refl), (refl, refl, refl, refl))
 
 structs-alternate : Texts alternate Struct (name "x") (name "y") "P" "P {\n    x: 7,\n}" "P {\n    x: 7,\n    y: 8,\n}"
-unfolding flatten textOf inputFault cutFault leaves placed continues follow digitText digits digitsIn
+unfolding flatten textOf inputFault cutFault placed continues follow digitText digits digitsIn
 structs-alternate = ((refl, refl, refl, refl), (refl, refl, refl, refl), (refl, refl, refl, refl))
 
 tuples : Texts plain Tuple item item "P" "P(7)" "P(7, 8)"
-unfolding flatten textOf inputFault cutFault leaves placed continues follow digitText digits digitsIn
+unfolding flatten textOf inputFault cutFault placed continues follow digitText digits digitsIn
 tuples = ((refl, refl, refl, refl), (refl, refl, refl, refl), (refl, refl, refl, refl))
 
 tuples-alternate : Texts alternate Tuple item item "P" "P(\n    7,\n)" "P(\n    7,\n    8,\n)"
-unfolding flatten textOf inputFault cutFault leaves placed continues follow digitText digits digitsIn
+unfolding flatten textOf inputFault cutFault placed continues follow digitText digits digitsIn
 tuples-alternate = ((refl, refl, refl, refl), (refl, refl, refl, refl), (refl, refl, refl, refl))
 
 lists : Texts plain ListKind entry entry "[]" "[7]" "[7, 8]"
-unfolding flatten textOf inputFault cutFault leaves placed continues follow digitText digits digitsIn
+unfolding flatten textOf inputFault cutFault placed continues follow digitText digits digitsIn
 lists = ((refl, refl, refl, refl), (refl, refl, refl, refl), (refl, refl, refl, refl))
 
 lists-alternate : Texts alternate ListKind entry entry "[]" "[\n    7,\n]" "[\n    7,\n    8,\n]"
-unfolding flatten textOf inputFault cutFault leaves placed continues follow digitText digits digitsIn
+unfolding flatten textOf inputFault cutFault placed continues follow digitText digits digitsIn
 lists-alternate = ((refl, refl, refl, refl), (refl, refl, refl, refl), (refl, refl, refl, refl))
 
 sets : Texts plain Set entry entry "{}" "{7}" "{7, 8}"
-unfolding flatten textOf inputFault cutFault leaves placed continues follow digitText digits digitsIn
+unfolding flatten textOf inputFault cutFault placed continues follow digitText digits digitsIn
 sets = ((refl, refl, refl, refl), (refl, refl, refl, refl), (refl, refl, refl, refl))
 
 sets-alternate : Texts alternate Set entry entry "{}" "{\n    7,\n}" "{\n    7,\n    8,\n}"
-unfolding flatten textOf inputFault cutFault leaves placed continues follow digitText digits digitsIn
+unfolding flatten textOf inputFault cutFault placed continues follow digitText digits digitsIn
 sets-alternate = ((refl, refl, refl, refl), (refl, refl, refl, refl), (refl, refl, refl, refl))
 
 -- the margin, in nested alternate form
 nested-margin : Has alternate (made Struct (place (name "x") ∷ made ListKind (place entry ∷ made Set (place entry ∷ number 7 ∷ []) ++ (place entry ∷ number 8 ∷ []))))
     (bytes "P {\n    x: [\n        {\n            7,\n        },\n        8,\n    ],\n}")
-unfolding flatten textOf inputFault cutFault leaves placed continues follow digitText digits digitsIn
+unfolding flatten textOf inputFault cutFault placed continues follow digitText digits digitsIn
 nested-margin = (refl, refl, refl, refl)
 
 abbrev lower : FormattingFlags
@@ -102,17 +101,17 @@ lower = withHex defaultFlags Lower
 
 -- a number has the flags that the run begins with; a display form has not
 with-flags : Has (record { flags = withAlternate lower true }) (made Tuple (place item ∷ number 250 ∷ place item ∷ value (integer display 8 (negsuc 4)) ∷ [])) (bytes "P(\n    0xfa,\n    -5,\n)")
-unfolding flatten textOf inputFault cutFault leaves placed continues follow digitText digits digitsIn
+unfolding flatten textOf inputFault cutFault placed continues follow digitText digits digitsIn
 with-flags = (refl, refl, refl, refl)
 
 -- a sub-formatter has flags of its own, and the outer ones return
 sub-flags : Has plain (made ListKind (place entry ∷ sub lower ∷ number 250 ∷ endsub ∷ place entry ∷ number 250 ∷ [])) (bytes "[fa, 250]")
-unfolding flatten textOf inputFault cutFault leaves placed continues follow digitText digits digitsIn
+unfolding flatten textOf inputFault cutFault placed continues follow digitText digits digitsIn
 sub-flags = (refl, refl, refl, refl)
 
 -- builders in it keep to its form, and to the margin outside
 sub-margin : Has plain (made ListKind (place entry ∷ sub (withAlternate defaultFlags true) ∷ made ListKind (place entry ∷ number 7 ∷ []) ++ (endsub ∷ place entry ∷ number 8 ∷ []))) (bytes "[[\n        7,\n    ], 8]")
-unfolding flatten textOf inputFault cutFault leaves placed continues follow digitText digits digitsIn
+unfolding flatten textOf inputFault cutFault placed continues follow digitText digits digitsIn
 sub-margin = (refl, refl, refl, refl)
 
 -- what each call of a fresh counting run answers
@@ -196,21 +195,21 @@ sheet-closed = refl
 
 -- 1: with 3 bytes finish answers what the builder holds, the pieces that fit are there, and the margin is not lowered
 held : (write 3 plain sheet .answers ≡ 0 ∷ 0 ∷ 0 ∷ 1 ∷ []) × (write 3 plain sheet .state .output .bytes ≡ bytes "Px7") × (write 3 plain sheet .state .margin ≡ 4) × (write 3 plain sheet .state .stack ≡ [])
-unfolding textOf inputFault cutFault leaves placed continues follow digitText digits digitsIn
+unfolding textOf inputFault cutFault placed continues follow digitText digits digitsIn
 held = (refl, refl, refl, refl)
 
 -- 1: with 9 bytes the closing is refused, the cursor is 8, and the margin is lowered
 closing-refused : (write 9 plain sheet .answers ≡ 0 ∷ 0 ∷ 0 ∷ 1 ∷ []) × (write 9 plain sheet .state .output .mode ≡ writing 8) × (write 9 plain sheet .state .margin ≡ 0)
-unfolding textOf inputFault cutFault leaves placed continues follow digitText digits digitsIn
+unfolding textOf inputFault cutFault placed continues follow digitText digits digitsIn
 closing-refused = (refl, refl, refl)
 
 -- 1: a finish tries no piece after a refused one
 closing-stops : write 8 alternate (made ListKind (place entry ∷ number 7 ∷ [])) .state .output ≡ record { mode = writing 7; bytes = bytes "[\n    7" ++ (0 ∷ []) }
-unfolding textOf inputFault cutFault leaves placed continues follow digitText digits digitsIn
+unfolding textOf inputFault cutFault placed continues follow digitText digits digitsIn
 closing-stops = refl
 
--- 1: a quoted string that is refused keeps the cursor and leaves its leading bytes: `a'b` in 5 bytes
-quoted-refused : run (start (writing 2) (replicate 7 0) plain) (value (str debug (bytes "a'b") (whole (bytes "a'b"))) ∷ [])
-    ≡ record { answers = 1 ∷ []; state = start (writing 2) (0 ∷ 0 ∷ bytes "\"a\\" ++ (0 ∷ 0 ∷ [])) plain }
-unfolding textOf inputFault cutFault leaves placed continues follow escapeOf escaped leading quotedLeaves
+-- 1, ticket 5: a quoted string that is refused keeps the cursor and all bytes: `a'b` in 5 bytes, one short
+quoted-refused : run (start (writing 2) (replicate 7 9) plain) (value (str debug (bytes "a'b") (whole (bytes "a'b"))) ∷ [])
+    ≡ record { answers = 1 ∷ []; state = start (writing 2) (replicate 7 9) plain }
+unfolding textOf inputFault cutFault placed continues follow escapeOf escaped
 quoted-refused = refl

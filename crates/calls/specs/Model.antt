@@ -7,7 +7,7 @@ use lib.ListN.{length}
 use Rattle.error.specs.declared.Answer.the-variants.{Done, CountTooLarge}
 use Rattle.error.specs.Answer.{numberOf}
 use Rattle.formatting.specs.declared.flags.FormattingFlags.{FormattingFlags}
-use Rattle.str_writer.specs.Value.{Value, textOf, leaves}
+use Rattle.str_writer.specs.Value.{textOf}
 use Rattle.str_writer.specs.Write.{Outcome, cursorFault}
 use Rattle.str_writer.specs.Write.{placed as placedText}
 use Rattle.calls.specs.declared.Kind.{Kind}
@@ -45,18 +45,14 @@ most = 2 ^ 64 - 1
 abbrev pub wrote : Outcome → PieceOutcome
 wrote o = to (writing (o .written .at)) (o .bytes) (numberOf (o .written .answer))
 
--- 'A nested record': a counting run adds the length of a piece, a writing run writes it; l is what a refused piece leaves in the room that there is
-abbrev pub putIn : Mode → List ℕ → List ℕ → (ℕ → List ℕ) → PieceOutcome
-putIn (counting n) b t l = cond (ltb most (n + length t)) (to (counting n) b (numberOf CountTooLarge)) (to (counting (n + length t)) b (numberOf Done))
-putIn (writing c) b t l = wrote (placedText b c t (l (length b - c)))
+-- 'A nested record': a counting run adds the length of a piece, a writing run writes it
+abbrev pub putIn : Mode → List ℕ → List ℕ → PieceOutcome
+putIn (counting n) b t = cond (ltb most (n + length t)) (to (counting n) b (numberOf CountTooLarge)) (to (counting (n + length t)) b (numberOf Done))
+putIn (writing c) b t = wrote (placedText b c t)
 
--- 'The answer to a call': 1 on a single write keeps the cursor and all bytes
+-- 'The answer to a call': a refused piece keeps the total or the cursor, and all bytes
 abbrev pub put : Output → List ℕ → PieceOutcome
-put d t = putIn (d .mode) (d .bytes) t (λ n. [])
-
--- 'A nested record': a value is one piece; a quoted string that is refused leaves its leading bytes
-abbrev pub putValue : Output → FormattingFlags → Value → PieceOutcome
-putValue d f v = putIn (d .mode) (d .bytes) (textOf f v) (λ n. leaves n v)
+put d t = putIn (d .mode) (d .bytes) t
 
 -- 'A nested record': no piece
 abbrev pub putNone : Output → PieceOutcome
@@ -214,7 +210,7 @@ emitFinish F (outer U ∷ s) = putNone (F .output)
 abbrev pub emit : State → Call → PieceOutcome
 emit F (opens k name) = tries (F .output) (openPieces k name)
 emit F (place x) = emitPlace F x (F .stack)
-emit F (value v) = putValue (F .output) (F .flags) v
+emit F (value v) = put (F .output) (textOf (F .flags) v)
 emit F (sub f) = putNone (F .output)
 emit F endsub = putNone (F .output)
 emit F finish = emitFinish F (F .stack)

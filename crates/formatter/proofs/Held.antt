@@ -30,7 +30,7 @@ put-refusal d t = by-mode (d .mode)
     written true o p b c e f = rw e
     written false o p b c e f = rw f
 
-    by-mode : (m : Mode) → Refusal (putIn m (d .bytes) t (λ n. []) .answer)
+    by-mode : (m : Mode) → Refusal (putIn m (d .bytes) t .answer)
     by-mode (counting n) = counted (ltb most (n + length t)) n (n + length t)
     by-mode (writing c) = written (ltb (length (d .bytes)) (c + length t)) _ _ _ _ refl refl
 

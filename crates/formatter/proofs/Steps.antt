@@ -12,10 +12,10 @@ use lib.Seq.{getD-set-same, getD-set-other}
 use borrow.Author.Tests.{leb-false, ltb-false}
 use Rattle.formatting.specs.declared.flags.FormattingFlags.{FormattingFlags}
 use Rattle.formatting.specs.FlagsAsNumber.{flagsOf}
-use Rattle.str_writer.specs.Value.{Value, inputFault, cutFault}
+use Rattle.str_writer.specs.Value.{Value, textOf, inputFault, cutFault}
 use Rattle.calls.specs.declared.Kind.{Kind}
 use Rattle.calls.specs.Call.{Place, Call, opens, place, value, sub, endsub, finish, openPieces, placePieces, closePieces, ready, faultNumber, argumentFault, cutOf, cutNumber, callFault, hold}
-use Rattle.calls.specs.Model.{Mode, counting, writing, PieceOutcome, putValue, cutIn, tries, stops, Entry, builder, outer, hasPrinted, State, Out, inner, beyond, judged, faultOf, move, emit, emitClose, lowered, holds, settled, guard, step}
+use Rattle.calls.specs.Model.{Mode, counting, writing, PieceOutcome, put, cutIn, tries, stops, Entry, builder, outer, hasPrinted, State, Out, inner, beyond, judged, faultOf, move, emit, emitClose, lowered, holds, settled, guard, step}
 use Rattle.writer_backend.specs.declared.pieces.Wrote.{Wrote}
 use Rattle.writer_backend.specs.Output.{modeOf, outputOf, putOut}
 use Rattle.writer_backend.specs.Pieces.{tryAll}
@@ -251,7 +251,7 @@ module _ (h : Head) (s b : List ℕ) where
         unfolding valueOut
         value-done p f ef w b' ew =
             rw (within, suits-value, p)
-            (ap out (rw ef at ew ∙ rw within) ∙ go (hold (faultNumber (inputFault v)) (cutIn (modeOf (h .mode)) (faultNumber (cutFault v)))) (putValue (outputOf (h .mode) b) (flagsOf (h .flags)) v))
+            (ap out (rw ef at ew ∙ rw within) ∙ go (hold (faultNumber (inputFault v)) (cutIn (modeOf (h .mode)) (faultNumber (cutFault v)))) (put (outputOf (h .mode) b) (textOf (flagsOf (h .flags)) v)))
           where
             out : PieceOutcome → Out
             out y = record { answer = y .answer; state = record { output = y .output; flags = flagsOf (h .flags); margin = marginOf (h .margin); stack = stackOf s (depthOf (h .depth)) } }

@@ -16,7 +16,7 @@ use Rattle.error.specs.Answer.{isDone}
 use Rattle.formatting.specs.declared.flags.FormattingFlags.{FormattingFlags}
 use Rattle.pwrapper.specs.Number.{decimal, displayText, debugText}
 use Rattle.pwrapper.proofs.Sign.{below, from}
-use Rattle.str_writer.specs.Value.{Form, display, debug, integer, textOf, inputFault, cutFault, leaves}
+use Rattle.str_writer.specs.Value.{Form, display, debug, integer, textOf, inputFault, cutFault}
 use Rattle.str_writer.specs.Write.{outcome, splice, put, write}
 use Rattle.str_writer.proofs.Splice.{splice-splice, length-splice}
 use Rattle.str_writer.proofs.Outcomes.{put-done, put-write}
@@ -43,11 +43,11 @@ module _ (b : List ℕ) (at : ℕ) (p d : List ℕ) {len : ℕ} (e : len ≡ len
         done = rw (m, splice-splice b at p d (omega arith), e) (put-done b at (p ++ d) (h .0) (h .1));
       }
 
--- an integer meets no fault and leaves nothing: its text is put as a piece
+-- an integer meets no fault: its text is put as a piece
 module _ (f : FormattingFlags) (b : List ℕ) (at k : ℕ) (z : ℤ) where
   pub write-integer : (m : Form) → put b at (textOf f (integer m k z)) ≡ write f b at (integer m k z)
-  unfolding inputFault cutFault leaves
-  write-integer m = put-write f b at (integer m k z) refl refl refl
+  unfolding inputFault cutFault
+  write-integer m = put-write f b at (integer m k z) refl refl
 
   pub display-put : {t : List ℕ} → displayText z ≡ t → put b at t ≡ write f b at (integer display k z)
   unfolding textOf

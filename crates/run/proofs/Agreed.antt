@@ -1,5 +1,4 @@
 -- A played list of calls: a run stays of its mode; and demand 3 of a run as data.
-use mathlib.Core.Bool.{Bool, true, false, cond}
 use mathlib.Core.Option.{Option, none, some}
 use mathlib.Core.Path.{_≡_, refl, sym, ap, subst, _∙_}
 use mathlib.Core.Logic.{_↔_}
@@ -7,14 +6,16 @@ use mathlib.Core.List.{List, [], _∷_, _++_, map}
 use Prim.Native.Nat.{ℕ, zero, suc, _+_, _%_, _≤_}
 use native.Mathlib.Decide.{decLe}
 use native.Mathlib.Omega.{arith}
-use lib.Dec.{ltb}
 use lib.ListN.{length, take, drop}
 use borrow.Author.Tests.{le-ltb, lt-ltb}
 use Rattle.calls.specs.declared.Settings.{Settings}
 use Rattle.calls.specs.Call.{Call, hold}
-use Rattle.calls.specs.Model.{Mode, numberIn, counting, writing, Output, to, most, putIn, State, beyond, step, run, start}
+use Rattle.calls.specs.Model.{Mode, numberIn, counting, writing, Output, putIn, State, beyond, step, run, start}
+use Rattle.agreement.specs.Untouched.{OnlyBetween, LeavesRest}
 use Rattle.agreement.specs.Agreement.{AllDone, AllWhole, definedText, AsCounted}
+use Rattle.agreement.proofs.Output.{rest-start, put-rest}
 use Rattle.agreement.proofs.Keeping.{On, In, step-keep}
+use Rattle.agreement.proofs.Rest.{rest-written}
 use Rattle.agreement.proofs.Agree.{done-first, first-done, agree}
 use Rattle.agreement.proofs.Counting.{count-suffices}
 use Rattle.writer_backend.specs.declared.pieces.WriterBackend.{WriterBackend}
@@ -24,7 +25,7 @@ use Rattle.run.specs.declared.Ran.{Ran}
 use Rattle.run.specs.Played.{Played, runOr, ended, played, endCounted, endWritten, stored, CountAgrees, WriteAgrees, callsIn, WritesAsCounted}
 
 -- what each piece keeps of the output, each list of words keeps that is played
-module _ (P : Mode → List ℕ → Type 0) (keeps : (m : Mode) (b t : List ℕ) (l : ℕ → List ℕ) → ((n : ℕ) → length (l n) ≤ n) → P m b → On P (putIn m b t l .output)) where
+module _ (P : Mode → List ℕ → Type 0) (keeps : (m : Mode) (b t : List ℕ) → P m b → On P (putIn m b t .output)) where
   or-keep : (F : State) (c : Option Call) → In P F → In P (stepOr F c .state)
   or-keep F (some c) h = step-keep P keeps F c h
   or-keep F none h = h
@@ -33,26 +34,9 @@ module _ (P : Mode → List ℕ → Type 0) (keeps : (m : Mode) (b t : List ℕ)
   play-keep F [] h = h
   play-keep F (c ∷ ds) h = play-keep (stepOr F c .state) ds (or-keep F c h)
 
--- of the mode that a run is of
-abbrev Same : Mode → Mode → List ℕ → Type 0
-Same (counting k) (counting n) b = Unit {0}
-Same (counting k) (writing c) b = ⊥
-Same (writing k) (counting n) b = ⊥
-Same (writing k) (writing c) b = Unit {0}
-
-same-start : (m : Mode) (b : List ℕ) → Same m m b
-same-start (counting k) b = tt
-same-start (writing k) b = tt
-
-same-keeps : (k m : Mode) (b t : List ℕ) (l : ℕ → List ℕ) → ((n : ℕ) → length (l n) ≤ n) → Same k m b → On (Same k) (putIn m b t l .output)
-same-keeps (counting k) (counting n) b t l f h = go (ltb most (n + length t))
-  where
-    go : (x : Bool) → On (Same (counting k)) (cond x (to (counting n) b 6) (to (counting (n + length t)) b 0) .output)
-    go true = tt
-    go false = tt
-same-keeps (counting k) (writing c) b t l f h = absurd h
-same-keeps (writing k) (counting n) b t l f h = absurd h
-same-keeps (writing k) (writing c) b t l f h = tt
+-- it stays of its mode, and leaves the rest of the bytes
+played-rest : (m : Mode) (b : List ℕ) (S : Settings) (ds : List (Option Call)) → On (LeavesRest m b) (played m b S ds .output)
+played-rest m b S ds = play-keep (LeavesRest m b) (put-rest m b) (start m b S) ds (rest-start m b)
 
 -- so the end, as a WriterBackend and bytes, is of the mode that the run started in
 abbrev endOf : Ran → Output → Played
@@ -62,17 +46,16 @@ abbrev endIn : Mode → Ran → List ℕ → Played
 endIn (counting n) r b = endOf r (record { mode = counting (r .number); bytes = b })
 endIn (writing p) r b = endOf r (record { mode = writing (r .number); bytes = b })
 
-end-same : (m : Mode) (r : Ran) (t : ℕ) (b : List ℕ) → Same m (asMode t (r .number)) b → endIn m r b ≡ endOf r (record { mode = asMode t (r .number); bytes = b })
-end-same (counting k) r zero b h = absurd h
-end-same (counting k) r (suc t) b h = refl
-end-same (writing k) r zero b h = refl
-end-same (writing k) r (suc t) b h = absurd h
+end-same : (m : Mode) (b0 : List ℕ) (r : Ran) (t : ℕ) (b : List ℕ) → LeavesRest m b0 (asMode t (r .number)) b → endIn m r b ≡ endOf r (record { mode = asMode t (r .number); bytes = b })
+end-same (counting k) b0 r zero b h = absurd h
+end-same (counting k) b0 r (suc t) b h = refl
+end-same (writing k) b0 r zero b h = refl
+end-same (writing k) b0 r (suc t) b h = absurd h
 
 pub end-in : (m : Mode) (b0 : List ℕ) (S : Settings) (ds : List (Option Call)) (r : Ran) (w : WriterBackend) (b : List ℕ)
     → r .number ≡ w .number → endOf r (outputOf w b) ≡ played m b0 S ds → endIn m r b ≡ played m b0 S ds
 end-in m b0 S ds r w b e q =
-    let k = play-keep (Same m) (same-keeps m) (start m b0 S) ds (same-start m b0) in
-    end-same m r (w .mode % 2) b (rw e (subst (λ (x : Played). On (Same m) (x .output)) (sym q) k)) ∙ rw e q
+    end-same m b0 r (w .mode % 2) b (rw e (subst (λ (x : Played). On (LeavesRest m b0) (x .output)) (sym q) (played-rest m b0 S ds))) ∙ rw e q
 
 none-left : {A : Type 0} (s : List A) → length s ≡ 0 → s ≡ []
 none-left [] e = refl
@@ -134,6 +117,9 @@ module _ (S : Settings) (ds : List (Option Call)) where
           before = ap (λ (x : Output). take p (x .bytes)) d ∙ W .before;
           size = ap (λ (x : Output). length (x .bytes)) d ∙ W .size;
         }
+
+    pub write-rest : OnlyBetween b p b' (r .number)
+    write-rest = rest-written p b (writing (r .number)) b' (subst (λ (x : Played). On (LeavesRest (writing p) b) (x .output)) (sym q) (played-rest (writing p) b S ds))
 
     pub writes-as-counted : WritesAsCounted (played (counting 0) [] S ds) S ds b p (r .first) (r .number) b'
     writes-as-counted c C = go (decLe p (length b))

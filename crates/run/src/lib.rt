@@ -3,6 +3,7 @@
 ghost use mathlib.Core.Path.{_≡_};
 ghost use mathlib.Core.List.{[]};
 ghost use lib.ListN.{set};
+ghost use Rattle.agreement.specs.Untouched.{OnlyBetween};
 ghost use Rattle.calls.specs.Call.{hold};
 ghost use Rattle.calls.specs.Model.{start, counting, writing};
 ghost use Rattle.writer_backend.specs.Output.{outputOf, modeOf};
@@ -190,6 +191,7 @@ pub fn write_run_each(
     ensures { λ r. ⌜ WriteAgrees settings (decode (now (calls .entry)) (now (text .entry))) (now (buf .entry)) at (r .first) (r .number) (now (buf .exit)) ⌝ }
     ensures { λ r. ⌜ WritesAsCounted (played (counting 0) [] settings (decode (now (calls .entry)) (now (text .entry)))) settings
         (decode (now (calls .entry)) (now (text .entry))) (now (buf .entry)) at (r .first) (r .number) (now (buf .exit)) ⌝ }
+    ensures { λ r. ⌜ OnlyBetween (now (buf .entry)) at (now (buf .exit)) (r .number) ⌝ }
 {
     let mut first = 0u8;
     let mut place = 0usize;
@@ -219,6 +221,7 @@ pub fn write_run(settings: Settings, buf: &mut [u8], at: usize, calls: &[u64], t
     ensures { λ r. ⌜ WriteAgrees settings (decode (now (calls .entry)) (now (text .entry))) (now (buf .entry)) at (r .first) (r .number) (now (buf .exit)) ⌝ }
     ensures { λ r. ⌜ WritesAsCounted (played (counting 0) [] settings (decode (now (calls .entry)) (now (text .entry)))) settings
         (decode (now (calls .entry)) (now (text .entry))) (now (buf .entry)) at (r .first) (r .number) (now (buf .exit)) ⌝ }
+    ensures { λ r. ⌜ OnlyBetween (now (buf .entry)) at (now (buf .exit)) (r .number) ⌝ }
 {
     let mut none = [0u8; 0];
     write_run_each(settings, buf, at, calls, text, &mut none)

@@ -4,6 +4,7 @@ use mathlib.Core.Option.{Option, none, some}
 use mathlib.Core.Path.{_≡_, refl, ap, _∙_}
 use mathlib.Core.List.{List, [], _∷_, _++_, map, append-assoc}
 use Prim.Native.Nat.{ℕ, zero, suc, _+_, _-_, _^_, _≤_}
+use native.Mathlib.Nat.{sub-zero, zero-sub, suc-sub-suc}
 use native.Mathlib.Omega.{arith}
 use lib.Dec.{ltb}
 use lib.ListN.{length, take, drop, replicate, length-append, length-replicate}
@@ -11,8 +12,10 @@ use lib.Seq.{take-at}
 use borrow.Author.Tests.{ltb-false}
 use Rattle.formatting.specs.declared.flags.FormattingFlags.{FormattingFlags}
 use Rattle.calls.specs.Call.{Call}
-use Rattle.calls.specs.Model.{step, run}
+use Rattle.calls.specs.Model.{numberIn, Output, step, run}
+use Rattle.agreement.specs.Untouched.{OnlyBetween}
 use Rattle.agreement.specs.Agreement.{AllDone, definedText, Counted, Written}
+use Rattle.agreement.proofs.Rest.{rest-untouched, rest-written}
 use Rattle.agreement.proofs.Agree.{agree}
 use Rattle.formatting.specs.Bytes.{bytes}
 use Rattle.fields.specs.Fields.{same, fields}
@@ -24,7 +27,7 @@ use Rattle.sheet_line.specs.Begin.{flagFields, sized, sizeFields, beginFields, 
 use Rattle.sheet_line.specs.Line.{callOfLine}
 use Rattle.sheet.specs.Sheet.{Sheet, freshSheet, endText}
 use Rattle.sheet.specs.Printed.{printedFrom, printed}
-use Rattle.sheet.specs.SheetAgreement.{rowsFrom, sheetAfter, rowsText, AllZero, countingAnswers, writingAnswers, sheetRows, SheetAgrees}
+use Rattle.sheet.specs.SheetAgreement.{rowsFrom, sheetAfter, rowsText, AllZero, countingAnswers, writingAnswers, sheetRows, SheetAgrees, SheetRest}
 
 -- a run that begins has its cursor in the buffer
 module _ (n p : ℕ) (f : FormattingFlags) where
@@ -146,3 +149,21 @@ sheet-agrees input n p S cs O P h =
     before k =
         rw (take-zeros p n inside)
         (take-at (replicate p 0 ++ definedText S cs) (drop (p + length (definedText S cs)) (replicate n 0)) (p + length (definedText S cs)) (simp (length-append, length-replicate)))
+
+-- n zeros without the first c
+drop-zeros : (c n : ℕ) → drop c (replicate {A = ℕ} n 0) ≡ replicate (n - c) 0
+drop-zeros zero n = rw (sub-zero n)
+drop-zeros (suc c) zero = rw (zero-sub (suc c))
+drop-zeros (suc c) (suc n) = drop-zeros c n ∙ rw (suc-sub-suc n c)
+
+pub sheet-rest : SheetRest
+sheet-rest n p S cs = rw (after-written both cs) (rest, rest .behind ∙ drop-zeros (numberIn (W .mode)) n)
+  where
+    both : Sheet
+    both = freshSheet (replicate n 0) p S
+
+    W : Output
+    W = run (both .written) cs .state .output
+
+    rest : OnlyBetween (replicate n 0) p (W .bytes) (numberIn (W .mode))
+    rest = rest-written p (replicate n 0) (W .mode) (W .bytes) (rest-untouched (both .written) cs)

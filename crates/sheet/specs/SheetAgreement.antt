@@ -3,13 +3,14 @@ use mathlib.Core.Path.{_≡_}
 use mathlib.Core.Logic.{_↔_}
 use mathlib.Core.List.{List, [], _∷_, _++_, map}
 use mathlib.Core.Option.{some}
-use Prim.Native.Nat.{ℕ, suc, _+_, _≤_, _<_}
-use lib.ListN.{length, take, replicate}
+use Prim.Native.Nat.{ℕ, suc, _+_, _-_, _≤_, _<_}
+use lib.ListN.{length, take, drop, replicate}
 use Rattle.error.specs.declared.Answer.the-variants.{NotEnoughSpace}
 use Rattle.error.specs.Answer.{numberOf}
 use Rattle.calls.specs.declared.Settings.{Settings}
 use Rattle.calls.specs.Call.{Call}
 use Rattle.calls.specs.Model.{numberIn, step, most}
+use Rattle.agreement.specs.Untouched.{OnlyBetween}
 use Rattle.agreement.specs.Agreement.{AllDone, firstRefusal, Proper, definedText}
 use Rattle.sheet_line.specs.declared.begin.Begin.the-variants.{Fresh}
 use Rattle.sheet_line.specs.Begin.{beginOf}
@@ -79,3 +80,10 @@ abbrev pub SheetAgrees : Type 0
 SheetAgrees =
     (input : List ℕ) (n p : ℕ) (S : Settings) (cs : List Call) → SheetOf input n p S cs → Proper S cs →
     length (definedText S cs) ≤ most → Shows input n p S cs
+
+-- document 02, ticket 5 on a sheet: whatever its calls, of its n bytes, which were zero, only those from p to the cursor can have changed, so past the cursor they are zero (proved in proofs/Agrees)
+abbrev pub SheetRest : Type 0
+SheetRest =
+    (n p : ℕ) (S : Settings) (cs : List Call) →
+    let o = sheetAfter (freshSheet (replicate n 0) p S) cs .written .output in
+    OnlyBetween (replicate n 0) p (o .bytes) (numberIn (o .mode)) × (drop (numberIn (o .mode)) (o .bytes) ≡ replicate (n - numberIn (o .mode)) 0)

@@ -11,7 +11,7 @@ use Rattle.value_writes.specs.Values.{valueOut}
 use Rattle.single_writes.specs.ByFlags.{from}
 
 -- it is that integer counted
-pub counts-integer : (t : ℕ) (f : FormattingFlags) (m : Form) (k : ℕ) (z : ℤ) {r : PieceOutcome} {n : ℕ} → ((s : List ℕ) → n ≡ length s → r ≡ putIn (counting t) [] s (λ j. []))
+pub counts-integer : (t : ℕ) (f : FormattingFlags) (m : Form) (k : ℕ) (z : ℤ) {r : PieceOutcome} {n : ℕ} → ((s : List ℕ) → n ≡ length s → r ≡ putIn (counting t) [] s)
     → n ≡ length (textOf f (integer m k z)) → r ≡ valueOut (from t) [] f (integer m k z)
 unfolding valueOut inputFault
 counts-integer t f m k z h e = h (textOf f (integer m k z)) e

@@ -27,13 +27,14 @@ use pwrapper::compute_display_len_u8;
 use pwrapper::compute_display_len_u16;
 use pwrapper::compute_display_len_u32;
 use pwrapper::compute_display_len_u64;
-use pwrapper::compute_utf8_debug_len;
+use pwrapper::compute_utf8_debug_len_in_range;
 use str_writer::char_fault;
 use str_writer::str_fault;
+use utils::Range;
 
 // Adds a length to a total, or gives 6 where that would pass 2^64 - 1.
 fn add(total: &mut usize, len: usize) -> u8
-    ensures { λ r. ⌜ ((t : List ℕ) → len ≡ length t → totals r (now (total .exit)) ≡ putIn (counting (now (total .entry))) [] t (λ n. [])) ⌝ }
+    ensures { λ r. ⌜ ((t : List ℕ) → len ≡ length t → totals r (now (total .exit)) ≡ putIn (counting (now (total .entry))) [] t) ⌝ }
 {
     if len <= usize::MAX - *total {
         *total += len;
@@ -232,7 +233,7 @@ pub extern "C" fn single_count_str(total: &mut usize, s: &[u8]) -> u8
     add(total, s.len())
 }
 
-// Counts a string, quoted.
+// Counts a string, quoted: as the whole of its range, as a run does.
 #[no_mangle]
 pub extern "C" fn single_count_str_debug(total: &mut usize, s: &[u8]) -> u8
     ensures { λ r. ⌜ totals r (now (total .exit)) ≡ counts (now (total .entry)) (entire (str debug) (now (s .entry))) ⌝ }
@@ -241,7 +242,8 @@ pub extern "C" fn single_count_str_debug(total: &mut usize, s: &[u8]) -> u8
     if !fault.is_done() {
         return fault.number();
     }
-    let quoted = compute_utf8_debug_len(s);
+    let end = s.len();
+    let quoted = compute_utf8_debug_len_in_range(s, Range { start: 0, end });
     let len = quoted.len;
     if len == 0 {
         return Answer::CountTooLarge.number();

@@ -17,14 +17,12 @@ use Rattle.formatting.specs.declared.flags.FormattingFlags.{FormattingFlags}
 use Rattle.utf8.specs.Utf8.{wellFormed, isScalar}
 use Rattle.utils.specs.declared.Range.{Range}
 use Rattle.utils.specs.Text.{saturated, part, isBoundary}
-use Rattle.formatting.specs.Escape.{quoted}
 use Rattle.ascii_str.specs.declared.AsciiStr.{AsciiStr}
 use Rattle.ascii_str.specs.declared.AsciiStr.the-variants.{Ascii, NotAsciiError}
 use Rattle.ascii_str.specs.Ascii.{asciiFrom, asciiAnswer}
 use Rattle.char_encoding.specs.Char.{charDisplay, charDebug}
-use Rattle.str_writer.specs.QuotedLeaves.{quotedLeaves}
-use Rattle.str_writer.specs.Value.{Form, display, debug, Value, integer, char, str, ascii, repeated, whole, asciiFault, textFault, textOf, inputFault, cutFault, leaves}
-use Rattle.str_writer.specs.Write.{Outcome, refused, placed, cursorFault, firstOf, unless, put, writeFault, write}
+use Rattle.str_writer.specs.Value.{Form, display, debug, Value, integer, char, str, ascii, repeated, whole, stringText, asciiFault, textFault, textOf, inputFault, cutFault}
+use Rattle.str_writer.specs.Write.{Outcome, refused, cursorFault, firstOf, unless, put, writeFault, write}
 use Rattle.str_writer.proofs.Outcomes.{put-bad, put-short, put-done}
 use Rattle.str_writer.proofs.Values.{whole-part, whole-uncut}
 
@@ -243,44 +241,29 @@ module _ (g : FormattingFlags) (b : List ℕ) (at : ℕ) (v : Value) (r : Answer
         go none fs k = refl
         go (some a) fs k = k
 
-    pub write-emit : unless (cursorFault b at) b at (placed b at (textOf g v) (leaves (length b - at) v)) ≡ write g b at v
-    unfolding write
+    pub write-emit : put b at (textOf g v) ≡ write g b at v
+    unfolding put write
     write-emit = sym (unless-none (cursorFault b at) b at _ in-cursor) ∙ unless-none (writeFault b at v) b at _ passed
 
 -- the same by the text of a string or a character
 module _ (g : FormattingFlags) (b : List ℕ) (at : ℕ) (r : Answer) where
-  module _ (s : List ℕ) (w : Range) where
-    pub str-emit : r ≡ answerOf (writeFault b at (str display s w)) → isDone r ≡ true → put b at (part s w) ≡ write g b at (str display s w)
-    unfolding put textOf leaves
-    str-emit e d = write-emit g b at (str display s w) r e d
+  module _ (m : Form) (s : List ℕ) (w : Range) where
+    pub str-emit : r ≡ answerOf (writeFault b at (str m s w)) → isDone r ≡ true → put b at (stringText m (part s w)) ≡ write g b at (str m s w)
+    unfolding textOf
+    str-emit e d = write-emit g b at (str m s w) r e d
 
-    pub ascii-emit : r ≡ answerOf (writeFault b at (ascii display s w)) → isDone r ≡ true → put b at (part s w) ≡ write g b at (ascii display s w)
-    unfolding put textOf leaves
-    ascii-emit e d = write-emit g b at (ascii display s w) r e d
+    pub ascii-emit : r ≡ answerOf (writeFault b at (ascii m s w)) → isDone r ≡ true → put b at (stringText m (part s w)) ≡ write g b at (ascii m s w)
+    unfolding textOf
+    ascii-emit e d = write-emit g b at (ascii m s w) r e d
 
-    pub str-quoted : r ≡ answerOf (writeFault b at (str debug s w)) → isDone r ≡ true → (o : Outcome)
-        → o ≡ unless (cursorFault b at) b at (placed b at (quoted (part s w)) (quotedLeaves (length b - at) (part s w))) → o ≡ write g b at (str debug s w)
-    unfolding textOf leaves
-    str-quoted e d o p = p ∙ write-emit g b at (str debug s w) r e d
-
-    pub ascii-quoted : r ≡ answerOf (writeFault b at (ascii debug s w)) → isDone r ≡ true → (o : Outcome)
-        → o ≡ unless (cursorFault b at) b at (placed b at (quoted (part s w)) (quotedLeaves (length b - at) (part s w))) → o ≡ write g b at (ascii debug s w)
-    unfolding textOf leaves
-    ascii-quoted e d o p = p ∙ write-emit g b at (ascii debug s w) r e d
-
-  module _ (s : List ℕ) where
-    pub whole-emit : r ≡ answerOf (writeFault b at (str display s (whole s))) → isDone r ≡ true → put b at s ≡ write g b at (str display s (whole s))
-    whole-emit e d = rw whole-part at (str-emit s (whole s) e d)
-
-    pub whole-quoted : r ≡ answerOf (writeFault b at (str debug s (whole s))) → isDone r ≡ true → (o : Outcome)
-        → o ≡ unless (cursorFault b at) b at (placed b at (quoted s) (quotedLeaves (length b - at) s)) → o ≡ write g b at (str debug s (whole s))
-    whole-quoted e d o p = str-quoted s (whole s) e d o (rw whole-part p)
+  pub whole-emit : (m : Form) (s : List ℕ) → r ≡ answerOf (writeFault b at (str m s (whole s))) → isDone r ≡ true → put b at (stringText m s) ≡ write g b at (str m s (whole s))
+  whole-emit m s e d = rw whole-part at (str-emit m s (whole s) e d)
 
   module _ (c : ℕ) where
     pub char-emit : r ≡ answerOf (writeFault b at (char display c)) → isDone r ≡ true → put b at (charDisplay c) ≡ write g b at (char display c)
-    unfolding put textOf leaves
+    unfolding textOf
     char-emit e d = write-emit g b at (char display c) r e d
 
     pub char-emit-debug : r ≡ answerOf (writeFault b at (char debug c)) → isDone r ≡ true → put b at (charDebug c) ≡ write g b at (char debug c)
-    unfolding put textOf leaves
+    unfolding textOf
     char-emit-debug e d = write-emit g b at (char debug c) r e d

@@ -1,7 +1,7 @@
 -- A truncation to the cursor succeeds; one of a well-formed text exactly if what it leaves is well-formed; one to a remembered length always.
 use mathlib.Core.Bool.{Bool, true, false, cond, and-eq-true-iff}
 use mathlib.Core.Logic.{dite}
-use mathlib.Core.List.{List, [], _∷_, _++_, append-assoc}
+use mathlib.Core.List.{List, [], _∷_, append-assoc}
 use mathlib.Core.Path.{_≡_, refl, sym, ap, _∙_}
 use Prim.Native.Nat.{ℕ, _+_, _-_, _≤_, min}
 use native.Mathlib.Decide.{decLt}
@@ -15,7 +15,7 @@ use Rattle.formatting.specs.declared.flags.FormattingFlags.{FormattingFlags}
 use Rattle.utf8.specs.Utf8.{wellFormed}
 use Rattle.utils.specs.Text.{isBoundary}
 use Rattle.str_writer.specs.Truncate.{startAt, truncatedUtf8, EndIsBoundary, TruncatesWellFormed, WriterCall, writing, truncating, called, noneBelow, TruncatesBack}
-use Rattle.str_writer.specs.Value.{Value, textOf, leaves}
+use Rattle.str_writer.specs.Value.{Value, textOf}
 use Rattle.str_writer.specs.Write.{Outcome, outcome, splice, placed, write}
 use Rattle.str_writer.proofs.Outcomes.{placed-short, placed-done}
 use Rattle.str_writer.proofs.Truncation.{start-fits, utf8-above, utf8-tested}
@@ -55,14 +55,14 @@ module _ (b : List ℕ) (p : ℕ) (c : List ℕ) (at : ℕ) (above : p ≤ at) (
       let n : length (take at c) ≡ at = length-take-le at c within in
       (rw (length-append, length-append, n) (omega arith), rw (append-assoc, take-append-le p (take at c) _ (rw n above), take-take p at c above) same)
 
-  placed-since : (t l : List ℕ) → Since b p (placed c at t l)
-  placed-since t l =
+  placed-since : (t : List ℕ) → Since b p (placed c at t)
+  placed-since t =
       dite (decLt (length c - at) (length t))
-      (λ x. rw (← placed-short c at t l within x) (above, omega (arith, splice-since l .0), splice-since l .1))
-      (λ x. rw (← placed-done c at t l within (omega arith)) (omega arith, splice-since t .0, splice-since t .1))
+      (λ x. rw (← placed-short c at t within x) (above, within, same))
+      (λ x. rw (← placed-done c at t within (omega arith)) (omega arith, splice-since t .0, splice-since t .1))
 
   write-since : (f : FormattingFlags) (v : Value) → Since b p (write f c at v)
-  write-since f v = write-either (Since b p) c at (λ a. (above, within, same)) f v (λ h y z. placed-since (textOf f v) (leaves (length c - at) v))
+  write-since f v = write-either (Since b p) c at (λ a. (above, within, same)) f v (λ h y z. placed-since (textOf f v))
 
   truncate-since : (n : ℕ) → p ≤ n → wellFormed (take at c) ≡ true → Remembered b p (outcome (truncatedUtf8 c at n) c)
   truncate-since n h k = rw (truncates-well-formed c at n within k) (go (wellFormed (take (min n at) c)) refl)

@@ -3,14 +3,14 @@ use mathlib.Core.Bool.{true, false, _||_, and-false, or-true, false≢true}
 use mathlib.Core.Logic.{dite}
 use mathlib.Core.Option.{none, some}
 use mathlib.Core.Path.{_≡_, refl, sym, ap, _∙_}
-use mathlib.Core.List.{List, [], _∷_, _++_}
-use Prim.Native.Nat.{ℕ, _+_, _-_, _%_, _≤_, min}
+use mathlib.Core.List.{List, [], _∷_}
+use Prim.Native.Nat.{ℕ, _+_, _-_, _%_, _≤_}
 use native.Mathlib.Decide.{decLt}
-use native.Mathlib.Nat.{min-eq-left, min-le-right, le-refl, sub-zero, zero-min}
+use native.Mathlib.Nat.{min-eq-left, le-refl, sub-zero, zero-min}
 use native.Mathlib.Omega.{arith}
 use lib.Dec.{ltb}
-use lib.ListN.{length, take, drop, replicate, length-append, length-replicate}
-use lib.Seq.{slice, take-add, take-at, drop-at, take-length, length-take-le}
+use lib.ListN.{length, take, replicate, length-append, length-replicate}
+use lib.Seq.{take-at, take-length}
 use borrow.Author.Tests.{lt-ltb, le-ltb, eq-eqb}
 use Rattle.error.specs.declared.Answer.the-variants.{Done, NotAscii, NotOnCharBoundary, NotUtf8, NotAChar}
 use Rattle.formatting.specs.declared.flags.FormattingFlags.{FormattingFlags}
@@ -22,7 +22,7 @@ use Rattle.ascii_str.specs.declared.AsciiStr.the-variants.{Ascii, NotAsciiError
 use Rattle.ascii_str.specs.Ascii.{asciiFrom}
 use Rattle.char_encoding.specs.declared.FmtChar.{FmtChar}
 use Rattle.char_encoding.specs.Char.{fmtChar}
-use Rattle.str_writer.specs.Value.{Form, str, ascii, char, repeated, whole, textOf, inputFault, cutFault, leaves}
+use Rattle.str_writer.specs.Value.{Form, str, ascii, char, repeated, whole, textOf, inputFault, cutFault}
 use Rattle.str_writer.specs.Write.{outcome, splice, put, write}
 use Rattle.str_writer.proofs.Outcomes.{put-done, put-write}
 
@@ -48,24 +48,6 @@ start-boundary (a ∷ s) e = rw (lt-ltb 0 (length (a ∷ s)) (omega arith)) (fir
 
 pub end-boundary : (s : List ℕ) → isBoundary s (length s) ≡ true
 end-boundary s = rw (le-ltb (length s) (length s) (omega arith)) (eq-eqb (length s) (length s) refl)
-
--- what a slice of a text reads
-slice-part : (i j : ℕ) (s : List ℕ) → i ≤ j → j ≤ length s → take (j - i) (drop i s) ≡ slice i j s
-slice-part i j s h k =
-    let e : i + (j - i) ≡ j = omega arith in
-    let t : take j s ≡ take i s ++ take (j - i) (drop i s) = rw e at (take-add i (j - i) s) in
-    rw t (sym (drop-at (take i s) (take (j - i) (drop i s)) i (length-take-le i s (omega arith))))
-
--- a clamped range is a range of the text
-module _ (s : List ℕ) (r q : Range) (e : q ≡ saturated s r) where
-  pub clamped-order : q .start ≤ q .end
-  clamped-order = rw e (min-le-right (r .start) (min (r .end) (length s)))
-
-  pub clamped-end : q .end ≤ length s
-  clamped-end = rw e (min-le-right (r .end) (length s))
-
-  pub clamped-part : take (q .end - q .start) (drop (q .start) s) ≡ part s r
-  clamped-part = slice-part (q .start) (q .end) s clamped-order clamped-end ∙ rw e
 
 module _ (m : Form) (s : List ℕ) (r : Range) where
   pub str-fault : wellFormed s ≡ false → inputFault (str m s r) ≡ some NotUtf8
@@ -141,13 +123,9 @@ module _ (c n : ℕ) where
   unfolding textOf
   repeated-text f = refl
 
-  pub repeated-leaves : (k : ℕ) → leaves k (repeated c n) ≡ []
-  unfolding leaves
-  repeated-leaves k = refl
-
 -- the repeated character is put as a piece
 pub repeated-write : (f : FormattingFlags) (b : List ℕ) (at c n : ℕ) → put b at (replicate n (c % 128)) ≡ write f b at (repeated c n)
-repeated-write f b at c n = rw (← repeated-text c n f) (put-write f b at (repeated c n) (repeated-fine c n) (repeated-uncut c n) (repeated-leaves c n (length b - at)))
+repeated-write f b at c n = rw (← repeated-text c n f) (put-write f b at (repeated c n) (repeated-fine c n) (repeated-uncut c n))
 
 module _ (f : FormattingFlags) (b : List ℕ) (at : ℕ) (h : at ≤ length b) where
   pub repeated-put : (c n : ℕ) → put b at (replicate n (c % 128)) ≡ write f b at (repeated c n)

@@ -1,7 +1,7 @@
 -- The text of a value that meets no fault is well formed, and a write keeps what stands before the cursor well formed.
 use mathlib.Core.Bool.{Bool, true, false, cond, and-eq-true-iff}
 use mathlib.Core.Logic.{dite}
-use mathlib.Core.List.{List, [], _∷_, _++_, append-assoc}
+use mathlib.Core.List.{List, [], _∷_, _++_}
 use mathlib.Core.Option.{Option, none, some, Option·none-ne-some}
 use mathlib.Core.Path.{_≡_, refl, sym, _∙_}
 use Prim.Native.Nat.{ℕ, _+_, _-_, _%_, _≤_}
@@ -18,7 +18,7 @@ use Rattle.utf8.proofs.Rfc3629.{append, octets-well-formed}
 use Rattle.utils.specs.Text.{saturated, part, isBoundary}
 use Rattle.char_encoding.specs.Char.{charDisplay, charInner, charDebug}
 use Rattle.char_encoding.proofs.Laws.{display-char, inner-low, inner-high, debug-some}
-use Rattle.str_writer.specs.Value.{Form, display, debug, Value, integer, char, str, ascii, repeated, stringText, textOf, inputFault, cutFault, leaves}
+use Rattle.str_writer.specs.Value.{Form, display, debug, Value, integer, char, str, ascii, repeated, stringText, textOf, inputFault, cutFault}
 use Rattle.str_writer.specs.Write.{KeepsWellFormed, Outcome, refused, placed, cursorFault, firstOf, unless, write}
 use Rattle.str_writer.proofs.AsciiText.{low-part, low-ascii, low-replicate, low-escape, low-display, low-debug}
 use Rattle.str_writer.proofs.Outcomes.{placed-short, placed-done}
@@ -66,13 +66,13 @@ abbrev pub Kept : Outcome → Type 0
 Kept o = wellFormed (take (o .written .at) (o .bytes)) ≡ true
 
 module _ (b : List ℕ) (at : ℕ) (k : wellFormed (take at b) ≡ true) where
-  pub placed-keeps : (t l : List ℕ) → at ≤ length b → wellFormed t ≡ true → Kept (placed b at t l)
-  placed-keeps t l h e =
-      let n : length (take at b) ≡ at = length-take-le at b h in
+  pub placed-keeps : (t : List ℕ) → at ≤ length b → wellFormed t ≡ true → Kept (placed b at t)
+  placed-keeps t h e =
       dite (decLt (length b - at) (length t))
-      (λ x. rw (← placed-short b at t l h x, append-assoc, take-at (take at b) _ at n) k)
-      (λ x. let m : length (take at b ++ t) ≡ at + length t = rw (length-append, n) in
-      rw (← placed-done b at t l h (omega arith), take-at (take at b ++ t) _ (at + length t) m) (append (take at b) t k ∙ e))
+      (λ x. rw (← placed-short b at t h x) k)
+      (λ x. let n : length (take at b) ≡ at = length-take-le at b h in
+      let m : length (take at b ++ t) ≡ at + length t = rw (length-append, n) in
+      rw (← placed-done b at t h (omega arith), take-at (take at b ++ t) _ (at + length t) m) (append (take at b) t k ∙ e))
 
 -- a cursor that is not past the end
 cursor-fits : (b : List ℕ) (at : ℕ) → cursorFault b at ≡ none → at ≤ length b
@@ -87,10 +87,10 @@ module _ (P : Outcome → Type 0) (b : List ℕ) (at : ℕ) (k : (a : Answer) �
   unless-either (some a) y z o g = k a
 
   pub write-either : (f : FormattingFlags) (v : Value)
-      → (at ≤ length b → inputFault v ≡ none → cutFault v ≡ none → P (placed b at (textOf f v) (leaves (length b - at) v))) → P (write f b at v)
+      → (at ≤ length b → inputFault v ≡ none → cutFault v ≡ none → P (placed b at (textOf f v))) → P (write f b at v)
   unfolding write
   write-either f v g = unless-either (cursorFault b at) (inputFault v) (cutFault v) _ (λ x y z. g (cursor-fits b at x) y z)
 
 pub write-keeps : KeepsWellFormed
 write-keeps f b at v k =
-    write-either Kept b at (λ a. k) f v (λ h y z. placed-keeps b at k (textOf f v) (leaves (length b - at) v) h (text-well-formed f v y z))
+    write-either Kept b at (λ a. k) f v (λ h y z. placed-keeps b at k (textOf f v) h (text-well-formed f v y z))

@@ -1,4 +1,3 @@
-pub mod QuotedLeaves
 pub mod Value
 pub mod Write
 pub mod Truncate

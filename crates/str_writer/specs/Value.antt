@@ -1,7 +1,7 @@
 -- Document 01, 'A nested record, and its count': the values, any number, character, string, ASCII or repeated-character write, display or debug.
 use mathlib.Core.Bool.{cond, _&&_}
 use mathlib.Core.Option.{Option, none, some}
-use mathlib.Core.List.{List, []}
+use mathlib.Core.List.{List}
 use Prim.Native.Nat.{ℕ, _%_}
 use lib.IntN.{ℤ}
 use lib.ListN.{length, replicate}
@@ -17,7 +17,6 @@ use Rattle.ascii_str.specs.declared.AsciiStr.the-variants.{Ascii, NotAsciiError
 use Rattle.ascii_str.specs.Ascii.{asciiFrom}
 use Rattle.char_encoding.specs.Char.{charDisplay, charDebug}
 use Rattle.pwrapper.specs.Number.{displayText, debugText}
-use Rattle.str_writer.specs.QuotedLeaves.{quotedLeaves}
 
 -- 'A nested record': display or debug
 pub data Form : Type 0 where
@@ -74,16 +73,3 @@ cutFault (char m c) = none
 cutFault (str m s r) = cond (isBoundary s (saturated s r .start) && isBoundary s (saturated s r .end)) none (some NotOnCharBoundary)
 cutFault (ascii m s r) = none
 cutFault (repeated c n) = none
-
--- 'A string': the same of a text, bare or quoted
-abbrev pub stringLeaves : Form → ℕ → List ℕ → List ℕ
-stringLeaves display n t = []
-stringLeaves debug n t = quotedLeaves n t
-
--- 'The answer to a call', 'A string': what a value refused with 1 leaves past the cursor in a room of n bytes, nothing except for quoted strings
-unfoldable pub leaves : ℕ → Value → List ℕ
-leaves n (integer m k z) = []
-leaves n (char m c) = []
-leaves n (str m s r) = stringLeaves m n (part s r)
-leaves n (ascii m s r) = stringLeaves m n (part s r)
-leaves n (repeated c k) = []

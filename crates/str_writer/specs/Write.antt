@@ -3,7 +3,7 @@ use mathlib.Core.Bool.{true, cond}
 use mathlib.Core.Path.{_≡_}
 use mathlib.Core.List.{List, [], _∷_, _++_}
 use mathlib.Core.Option.{Option, none, some}
-use Prim.Native.Nat.{ℕ, _+_, _-_}
+use Prim.Native.Nat.{ℕ, _+_}
 use lib.Dec.{ltb}
 use lib.ListN.{length, take, drop}
 use Rattle.error.specs.declared.Answer.{Answer}
@@ -11,7 +11,7 @@ use Rattle.error.specs.declared.Answer.the-variants.{Done, NotEnoughSpace, BadC
 use Rattle.formatting.specs.declared.flags.FormattingFlags.{FormattingFlags}
 use Rattle.utf8.specs.Utf8.{wellFormed}
 use Rattle.str_writer.specs.declared.piece.Written.{Written}
-use Rattle.str_writer.specs.Value.{Value, textOf, inputFault, cutFault, leaves}
+use Rattle.str_writer.specs.Value.{Value, textOf, inputFault, cutFault}
 
 -- 'The writer': what a call answers with the cursor, and the bytes that it leaves
 pub record Outcome : Type 0 where
@@ -30,10 +30,10 @@ splice b at t = take at b ++ t ++ drop (at + length t) b
 abbrev pub refused : Answer → List ℕ → ℕ → Outcome
 refused a b at = outcome (record { at = at; answer = a }) b
 
--- 'The answer to a call': 1 where the cursor plus the piece's length exceeds the buffer's length, leaving l past the unmoved cursor; else the text, and the cursor past it
-unfoldable pub placed : List ℕ → ℕ → List ℕ → List ℕ → Outcome
-placed b at t l =
-    cond (ltb (length b) (at + length t)) (outcome (record { at = at; answer = NotEnoughSpace }) (splice b at l))
+-- 'The answer to a call': 1 where the cursor plus the piece's length exceeds the buffer's length; else the text, and the cursor past it. Ticket 5: a quoted string is refused as every piece is
+unfoldable pub placed : List ℕ → ℕ → List ℕ → Outcome
+placed b at t =
+    cond (ltb (length b) (at + length t)) (refused NotEnoughSpace b at)
     (outcome (record { at = at + length t; answer = Done }) (splice b at t))
 
 -- 'The answer to a call', 9: the cursor given exceeds the buffer's length
@@ -53,7 +53,7 @@ unless (some a) b at o = refused a b at
 
 -- 'The writer': a piece of text put at the cursor
 unfoldable pub put : List ℕ → ℕ → List ℕ → Outcome
-put b at t = unless (cursorFault b at) b at (placed b at t [])
+put b at t = unless (cursorFault b at) b at (placed b at t)
 
 -- 'The answer to a call', order: 9, then 2, 4 or 5, then 3
 abbrev pub writeFault : List ℕ → ℕ → Value → Option Answer
@@ -61,7 +61,7 @@ writeFault b at v = firstOf (cursorFault b at ∷ inputFault v ∷ cutFault v �
 
 -- 'The answer to a call', order: a fault before 1
 unfoldable pub write : FormattingFlags → List ℕ → ℕ → Value → Outcome
-write f b at v = unless (writeFault b at v) b at (placed b at (textOf f v) (leaves (length b - at) v))
+write f b at v = unless (writeFault b at v) b at (placed b at (textOf f v))
 
 -- 'The writer': a write keeps the text before the cursor well-formed
 abbrev pub KeepsWellFormed : Type 0

@@ -7,6 +7,7 @@ ghost use mathlib.Core.Path.{_≡_};
 ghost use mathlib.Core.List.{[]};
 ghost use Prim.Native.Nat.{_<_};
 ghost use Rattle.error.specs.Answer.{numberOf};
+ghost use Rattle.agreement.specs.Untouched.{OnlyBetween};
 ghost use Rattle.calls.specs.Model.{counting, writing};
 ghost use Rattle.encoded_call.specs.Encoding.{decode};
 ghost use Rattle.run.specs.Played.{endCounted, endWritten, stored, CountAgrees, WriteAgrees, WritesAsCounted};
@@ -60,6 +61,7 @@ fn write(
         (now (buf .entry)) at (r .first) (r .number) (now (buf .exit))) ⌝ }
     ensures { λ r. ⌜ WritesAsCounted (countEnd flags (now (calls .entry)) (now (text .entry))) (settingsBy flags)
         (decode (now (calls .entry)) (now (text .entry))) (now (buf .entry)) at (r .first) (r .number) (now (buf .exit)) ⌝ }
+    ensures { λ r. ⌜ OnlyBetween (now (buf .entry)) at (now (buf .exit)) (r .number) ⌝ }
 {
     if 11 < flags {
         if buf.len() < at {
@@ -102,6 +104,7 @@ pub extern "C" fn table_text_write(
         (now (buf .entry)) (now (cursor .entry)) r (now (cursor .exit)) (now (buf .exit))) ⌝ }
     ensures { λ r. ⌜ WritesAsCounted (countEnd flags (now (calls .entry)) (now (text .entry))) (settingsBy flags)
         (decode (now (calls .entry)) (now (text .entry))) (now (buf .entry)) (now (cursor .entry)) r (now (cursor .exit)) (now (buf .exit)) ⌝ }
+    ensures { λ _. ⌜ OnlyBetween (now (buf .entry)) (now (cursor .entry)) (now (buf .exit)) (now (cursor .exit)) ⌝ }
 {
     let mut none = [0u8; 0];
     let r = write(flags, buf, *cursor, calls, text, &mut none);
@@ -154,6 +157,7 @@ pub extern "C" fn table_text_write_each(
     ensures { λ _. ⌜ now (entries .exit) ≡ writeEnd flags (now (buf .entry)) (now (cursor .entry)) (now (calls .entry)) (now (text .entry)) .entries ⌝ }
     ensures { λ _. ⌜ now (answers .exit)
         ≡ stored (now (answers .entry)) (writeAnswers flags (now (buf .entry)) (now (cursor .entry)) (now (calls .entry)) (now (text .entry))) ⌝ }
+    ensures { λ _. ⌜ OnlyBetween (now (buf .entry)) (now (cursor .entry)) (now (buf .exit)) (now (cursor .exit)) ⌝ }
 {
     let r = write(flags, buf, *cursor, calls, text, answers);
     *cursor = r.number;

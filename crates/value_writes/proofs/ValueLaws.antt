@@ -1,9 +1,9 @@
 -- A value judged, then emitted: the fault that it meets, or its text placed or counted; and the parts of its length.
 use mathlib.Core.Bool.{Bool, true, false, not, cond}
-use mathlib.Core.Option.{Option, none, some}
+use mathlib.Core.Option.{none, some}
 use mathlib.Core.Path.{_≡_, refl, sym, ap, _∙_}
 use mathlib.Core.List.{List, [], _∷_, _++_}
-use Prim.Native.Nat.{ℕ, zero, suc, _+_, _-_, _^_, _<_}
+use Prim.Native.Nat.{ℕ, zero, suc, _+_, _-_, _^_}
 use native.Mathlib.Omega.{arith}
 use lib.Dec.{ltb}
 use lib.IntN.{ℤ, pos, negsuc, natAbs}
@@ -13,7 +13,7 @@ use lib.Signed.{ltZ}
 use mir.Syntax.{Width}
 use mir.Val.{SFits, ofZ, toZ}
 use mir.ValLaws.{toZ-ofZ}
-use borrow.Author.Tests.{not-true, not-false, lt-ltb, le-ltb, ltb-false}
+use borrow.Author.Tests.{not-true, not-false, lt-ltb, le-ltb}
 use Rattle.error.specs.declared.Answer.{Answer}
 use Rattle.error.specs.declared.Answer.the-variants.{Done, NotEnoughSpace, NotAscii, NotOnCharBoundary, NotUtf8, NotAChar, CountTooLarge, TooDeep, WrongCall, BadCursor}
 use Rattle.error.specs.Answer.{numberOf, answerOf, isDone}
@@ -26,12 +26,14 @@ use Rattle.utils.specs.Text.{saturated, part}
 use Rattle.pwrapper.specs.declared.quoted.DebugLen.{DebugLen}
 use Rattle.pwrapper.specs.Number.{decimal, displayText, twosComplement, debugIn, debugParts}
 use Rattle.pwrapper.specs.QuotedCount.{countOf}
-use Rattle.str_writer.specs.Value.{Form, display, debug, Value, integer, textOf, inputFault, cutFault, leaves}
-use Rattle.str_writer.specs.Write.{Outcome, placed, cursorFault, firstOf, unless, write}
-use Rattle.str_writer.proofs.Values.{clamped-end}
+use Rattle.str_writer.specs.Value.{Form, display, debug, Value, integer, textOf, inputFault, cutFault}
+use Rattle.str_writer.specs.Write.{Outcome, placed, unless}
+use Rattle.str_writer.specs.Write.{put as putText}
+use Rattle.pwrapper.proofs.Ranges.{clamped-end}
 use Rattle.calls.specs.Call.{faultNumber}
-use Rattle.calls.specs.Model.{Mode, counting, writing, PieceOutcome, to, most, putIn, putValue, wrote, beyond}
+use Rattle.calls.specs.Model.{Mode, counting, writing, PieceOutcome, to, most, putIn, put, wrote, beyond}
 use Rattle.writer_backend.specs.declared.pieces.WriterBackend.{WriterBackend}
+use Rattle.quoted_writes.proofs.Quoting.{count-above}
 use Rattle.value_writes.specs.declared.Integer.{Integer}
 use Rattle.value_writes.specs.declared.Integer.the-variants.{Unsigned, Signed}
 use Rattle.value_writes.specs.declared.Parts.{Parts}
@@ -89,32 +91,20 @@ module _ (m : WriterBackend) (b : List ℕ) (f : FormattingFlags) (v : Value) wh
     unfolding valueOut
     value-refused n p = p ∙ rw (h, ← e, number-met a t n)
 
-    emitted : not d ≡ false → putValue (outputOf m b) f v ≡ valueOut m b f v
+    emitted : not d ≡ false → put (outputOf m b) (textOf f v) ≡ valueOut m b f v
     unfolding valueOut
     emitted n = rw (h, ← e, number-done a t n)
 
-    pub value-counted : not d ≡ false → modeOf m ≡ counting (m .number) → {r : PieceOutcome} → r ≡ putIn (modeOf m) b (textOf f v) (λ k. []) → r ≡ valueOut m b f v
+    pub value-counted : not d ≡ false → modeOf m ≡ counting (m .number) → {r : PieceOutcome} → r ≡ putIn (modeOf m) b (textOf f v) → r ≡ valueOut m b f v
     value-counted n q p = p ∙ (rw q) ∙ emitted n
 
-    pub value-placed : not d ≡ false → modeOf m ≡ writing (m .number) → {o : Outcome}
-        → o ≡ unless (cursorFault b (m .number)) b (m .number) (placed b (m .number) (textOf f v) (leaves (length b - m .number) v)) → wrote o ≡ valueOut m b f v
-    value-placed n q p =
-        ap wrote p ∙ by-test (ltb (length b) (m .number)) (placed b (m .number) (textOf f v) (leaves (length b - m .number) v)) (rw q at h)
-        ∙ (rw q) ∙ emitted n
+    pub value-placed : not d ≡ false → modeOf m ≡ writing (m .number) → {o : Outcome} → o ≡ putText b (m .number) (textOf f v) → wrote o ≡ valueOut m b f v
+    unfolding putText
+    value-placed n q p = ap wrote p ∙ by-test (ltb (length b) (m .number)) (placed b (m .number) (textOf f v)) (rw q at h) ∙ (rw q) ∙ emitted n
       where
         by-test : (t : Bool) (o : Outcome) → faultNumber (cond t (some BadCursor) none) ≡ 0 → wrote (unless (cond t (some BadCursor) none) b (m .number) o) ≡ wrote o
         by-test true o z = absurd (omega (arith, z))
         by-test false o z = refl
-
--- a write of a value that meets no fault tests the cursor only
-pub write-unmet : (g : FormattingFlags) (b : List ℕ) (at : ℕ) (v : Value) → inputFault v ≡ none → cutFault v ≡ none
-    → write g b at v ≡ unless (cursorFault b at) b at (placed b at (textOf g v) (leaves (length b - at) v))
-unfolding write
-write-unmet g b at v e u = rw (e, u) (by-cursor (cursorFault b at))
-  where
-    by-cursor : (x : Option Answer) → unless (firstOf (x ∷ none ∷ none ∷ [])) b at (placed b at (textOf g v) (leaves (length b - at) v)) ≡ unless x b at (placed b at (textOf g v) (leaves (length b - at) v))
-    by-cursor none = refl
-    by-cursor (some a) = refl
 
 -- what holds of every integer, of any width, holds of one by its type
 pub by-type : (P : Value → Type 0) (m : Form) → ((k : ℕ) (z : ℤ) → P (integer m k z)) → (x : Integer) → P (integerOf m x)
@@ -136,28 +126,9 @@ integer-text debug f k z p e t b = rw e (by-format (f .«num_fmt»))
 pub clamped-length : (s : List ℕ) (r q : Range) → q ≡ saturated s r → q .end - q .start ≡ length (part s r)
 clamped-length s r q e = rw e (sym (length-slice (saturated s r .start) (saturated s r .end) s (clamped-end s r (saturated s r) refl)))
 
--- the length of a quoted text, which is 0 only where it passes 2^64 - 1
-module _ (n : ℕ) (q : DebugLen) (e : q ≡ countOf (suc n)) where
-  above : q .len ≡ 0 → most < suc n
-  above z = by-test (ltb (suc n) (2 ^ 64)) refl
-    where
-      by-test : (t : Bool) → ltb (suc n) (2 ^ 64) ≡ t → most < suc n
-      by-test true h = absurd (omega (arith, rw (e, h) at z))
-      by-test false h = omega (arith, ltb-false (suc n) (2 ^ 64) h)
-
-  within : (q .len ≡ 0 → ⊥) → q .len ≡ suc n
-  within z = rw e (by-test (ltb (suc n) (2 ^ 64)) refl)
-    where
-      by-test : (t : Bool) → ltb (suc n) (2 ^ 64) ≡ t → countOf (suc n) .len ≡ suc n
-      by-test true h = rw h
-      by-test false h = absurd (z (rw (e, h)))
-
-module _ (t : List ℕ) (q : DebugLen) (e : q ≡ countOf (length (quoted t))) where
-  pub quoted-length : (q .len ≡ 0 → ⊥) → q .len ≡ length (quoted t)
-  quoted-length = within _ q e
-
-  pub quoted-refused : (n : ℕ) (b : List ℕ) → q .len ≡ 0 → to (counting n) b 6 ≡ putIn (counting n) b (quoted t) (λ n. [])
-  quoted-refused n b z = let h : most < length (quoted t) = above _ q e z in rw (lt-ltb most (n + length (quoted t)) (omega arith))
+-- a quoted text whose count is 0 has more than 2^64 - 1 bytes
+pub quoted-refused : (t : List ℕ) (q : DebugLen) → q ≡ countOf (length (quoted t)) → (n : ℕ) (b : List ℕ) → q .len ≡ 0 → to (counting n) b 6 ≡ putIn (counting n) b (quoted t)
+quoted-refused t q e n b z = rw (lt-ltb most (n + length (quoted t)) (omega (arith, count-above t q e z)))
 
 -- the two's complement at a width, by the sign
 pub twos-by-sign : (w : Width) (z : ℤ) → SFits w z → (k : ℕ) → twosComplement k z ≡ cond (ltZ (toZ w (ofZ w z)) (pos 0)) (2 ^ k - natAbs z) (natAbs z)

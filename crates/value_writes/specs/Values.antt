@@ -5,9 +5,9 @@ use lib.IntN.{pos}
 use Rattle.formatting.specs.declared.flags.FormattingFlags.{FormattingFlags}
 use Rattle.formatting.specs.declared.flags.NumberFormatting.the-variants.{Decimal}
 use Rattle.pwrapper.specs.Number.{debugParts}
-use Rattle.str_writer.specs.Value.{Form, display, debug, Value, integer, char, str, ascii, repeated, inputFault, cutFault}
+use Rattle.str_writer.specs.Value.{Form, display, debug, Value, integer, char, str, ascii, repeated, textOf, inputFault, cutFault}
 use Rattle.calls.specs.Call.{faultNumber, hold}
-use Rattle.calls.specs.Model.{Mode, Output, PieceOutcome, putValue, cutIn, beyond}
+use Rattle.calls.specs.Model.{Mode, Output, PieceOutcome, put, cutIn, beyond}
 use Rattle.writer_backend.specs.declared.pieces.WriterBackend.{WriterBackend}
 use Rattle.value_writes.specs.declared.Form as code
 use Rattle.value_writes.specs.declared.Form.the-variants.{Display, Debug}
@@ -66,4 +66,4 @@ judgedIn m v = hold (faultNumber (inputFault v)) (cutIn m (faultNumber (cutFault
 -- Document 01, 'The answer to a call', order: 9, then 2, 4 or 5, then 3 in writing, then 6 or 1
 unfoldable pub valueOut : WriterBackend → List ℕ → FormattingFlags → Value → PieceOutcome
 valueOut w b f v =
-    unlessFault (hold (beyond (modeOf w) b) (judgedIn (modeOf w) v)) (outputOf w b) (putValue (outputOf w b) f v)
+    unlessFault (hold (beyond (modeOf w) b) (judgedIn (modeOf w) v)) (outputOf w b) (put (outputOf w b) (textOf f v))

@@ -1,7 +1,7 @@
 // A value counted or written as one piece: the text of strings is lent beside it.
 ghost use mathlib.Core.Path.{_≡_};
 ghost use mathlib.Core.Bool.{true};
-ghost use mathlib.Core.List.{List, []};
+ghost use mathlib.Core.List.{List};
 ghost use Prim.Native.Nat.{ℕ, _+_, _^_};
 ghost use lib.IntN.{ℤ};
 ghost use lib.ListN.{length};
@@ -302,7 +302,7 @@ fn put_ascii(m: WriterBackend, buf: &mut [u8], form: Form, s: &[u8], range: Rang
 // The length of a clamped range, bare or quoted, added to the total.
 fn add_string(m: WriterBackend, form: Form, s: &[u8], range: Range) -> Wrote
     ensures { λ r. ⌜ ((b : List ℕ) → isCounting (modeOf m) ≡ true →
-        putOut r b ≡ putIn (modeOf m) b (stringText (formOf form) (part (now (s .entry)) range)) (λ n. [])) ⌝ }
+        putOut r b ≡ putIn (modeOf m) b (stringText (formOf form) (part (now (s .entry)) range))) ⌝ }
 {
     match form {
         Form::Display => {

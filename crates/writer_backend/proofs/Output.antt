@@ -1,7 +1,7 @@
 -- One piece: its length added to a total, or its text written at the cursor.
 use mathlib.Core.Bool.{Bool, true, false, false≢true}
 use mathlib.Core.Path.{_≡_, refl, sym, _∙_}
-use mathlib.Core.List.{List, []}
+use mathlib.Core.List.{List}
 use Prim.Native.Nat.{ℕ, zero, suc, _+_, _%_, _≤_, _<_}
 use native.Mathlib.Omega.{arith}
 use lib.Dec.{eqb}
@@ -13,7 +13,6 @@ use Rattle.str_writer.specs.declared.piece.Written.{Written}
 use Rattle.str_writer.specs.Write.{outcome, placed}
 use Rattle.str_writer.specs.Write.{put as putText}
 use Rattle.str_writer.proofs.Outcomes.{put-placed}
-use Rattle.str_writer.proofs.Splice.{splice-nil}
 use Rattle.writer_backend.specs.declared.pieces.WriterBackend.{WriterBackend}
 use Rattle.writer_backend.specs.Output.{asMode, modeOf, isCounting, withNumber, added, outputOf}
 
@@ -53,7 +52,7 @@ module _ (w : WriterBackend) {r : Bool} (e : r ≡ isCounting (modeOf w)) where
   writes t = as-writing (w .mode % 2) (w .number) (sym e ∙ t)
 
   -- a length added to a total, where a text is counted
-  pub adds : r ≡ true → (b t : List ℕ) {n : ℕ} → n ≡ length t → added (modeOf w) b n ≡ putIn (modeOf w) b t (λ k. [])
+  pub adds : r ≡ true → (b t : List ℕ) {n : ℕ} → n ≡ length t → added (modeOf w) b n ≡ putIn (modeOf w) b t
   adds q b t l = rw (counts q, l)
 
   -- the outcome of a single write, where a text is written
@@ -67,7 +66,7 @@ module _ (w : WriterBackend) (b : List ℕ) (e : modeOf w ≡ writing (w .number
   -- a cursor past the bytes has no room
   pub put-past : length b < w .number → to (modeOf w) b 1 ≡ put (outputOf w b) s
   unfolding placed
-  put-past h = rw (e, lt-ltb (length b) (w .number + length s) (omega arith), splice-nil)
+  put-past h = rw (e, lt-ltb (length b) (w .number + length s) (omega arith))
 
   pub put-writes : w .number ≤ length b → wrote (putText b (w .number) s) ≡ put (outputOf w b) s
   put-writes h = rw (e, ← put-placed b (w .number) s h)

@@ -1,97 +1,97 @@
-use mathlib.Core.Path.{_≡_, refl, sym, _∙_}
-use mathlib.Core.List.{[]}
-use Prim.Native.Nat.{_+_, _-_, _≤_, _<_}
-use lib.ListN.{length, drop, getD, length-drop, drop-of-length-le}
-use Rattle.formatting.specs.Escape.{escaped}
-use Rattle.str_writer.specs.QuotedLeaves.{costOf, leading}
-use Rattle.str_writer.specs.Write.{splice}
-use borrow.Author.Needs.{needs}
-use borrow.Author.Tests.{lt-ltb, le-ltb}
-use Rattle.str_writer.proofs.Splice.{splice-nil}
-use Rattle.quoted_writes.proofs.Quoting.{zero-over, some-fits, byteText, byte-some, escaped-long, escaped-turn, leading-last, leading-turn}
+use mathlib.Core.Logic.{dite}
+use Prim.Native.Nat.{_+_, _-_}
+use native.Mathlib.Decide.{decLt}
 use native.Mathlib.Omega.{arith}
+use lib.ListN.{length}
+use Rattle.quoted_writes.proofs.Quoting.{Left, left-start, left-run, left-run-room, left-part, left-part-room, left-none}
 use Rattle.quoted_writes.proofs.put_escaped.Statement.{statement}
 use Rattle.quoted_writes.proofs.put_escaped.Tie as tie
 
--- The invariant: what is left to write, with what is left to spend, gives the whole.
 abbrev Inv-loop : tie.InvT-loop
-Inv-loop buf₀ w s left at₀ rest₀ i₀ buf at rest i =
-    (i ≤ length s) × ((at + (length s - i) + rest < length buf) × ((length buf ≡ length buf₀)
-    × ((at + length (escaped (drop i s)) ≡ w + length (escaped s))
-    × ((length s - i + rest + length (escaped s) ≡ length s + left + length (escaped (drop i s)))
-    × (splice buf at (leading rest (drop i s)) ≡ splice buf₀ w (leading left s))))))
+Inv-loop buf₀ w s at₀ i₀ buf at i = Left buf₀ w s buf at i
 
 abbrev μ-loop : tie.MeasureT-loop
-μ-loop buf₀ w s left at₀ rest₀ i₀ buf at rest i = length s - i
+μ-loop buf₀ w s at₀ i₀ buf at i = length s - i
+
+-- behind the blocks without an escape
+run : (c : tie.After-slice-known2 Inv-loop μ-loop) →
+    let turn = c .before .before .before .before .before in
+    let l = turn .before .loop in
+    let a = turn .before .before .before .before .args in
+    let n = c .before .before .put-blocks .result in
+    Left (a .buf .now) (a .w) (a .s .now) (c .before .before .put-blocks .last .0) (l .at + n) (l .i + n)
+run c =
+    let at-put-blocks = c .before .before in
+    let at-loop = at-put-blocks .before .before .before .before in
+    left-run (at-loop .loop .inv) (at-put-blocks .put-blocks .result) _ (at-put-blocks .put-blocks .ensures)
 
 loop-holds : tie.Need-loop-holds Inv-loop μ-loop
-loop-holds c = (omega arith, (omega arith, (refl, (refl, (omega arith, refl)))))
+loop-holds c =
+    let at-args = c .before .before in
+    let a = at-args .args in left-start (a .buf .now) (a .w) (a .s .now) (at-args .pre)
 
-shared-slice-read-put-escape : tie.Need-shared-slice-read-put-escape Inv-loop μ-loop
-shared-slice-read-put-escape c = search needs
+sub-put-blocks : tie.Need-sub-put-blocks Inv-loop μ-loop
+sub-put-blocks c =
+    let at-loop = c .before .before in
+    at-loop .loop .inv .within
 
-put-escape-requires : tie.Need-put-escape-requires Inv-loop μ-loop
-put-escape-requires c κs = search needs
+part-put-blocks-start : tie.Need-part-put-blocks-start Inv-loop μ-loop
+part-put-blocks-start c =
+    let at-loop = c .before .before in
+    at-loop .loop .inv .within
 
-same-length : tie.Need-same-length Inv-loop μ-loop
-same-length c = search needs
+part-put-blocks-end : tie.Need-part-put-blocks-end Inv-loop μ-loop
+part-put-blocks-end c = omega arith
 
-returns : tie.Need-returns Inv-loop μ-loop
-returns c =
-    let turn = c .before .before .before .before .before .before in
-    let a = turn .before .before .before .before .args in
-    let l = turn .before .loop in
-    let h = turn .loop-test .taken in
-    let o : l .rest < costOf (getD (a .s .now) (l .i) 0) = zero-over _ _ _ _ (c .before .before .before .put-escape .ensures .0) (byte-some _) (c .if1 .taken) in
-    let over : length (a .s .now) + a .left < length (escaped (a .s .now)) =
-    omega (arith, escaped-turn (a .s .now) (l .i) h, escaped-long (drop (l .i + 1) (a .s .now)), length-drop (l .i + 1) (a .s .now)) in
-    (rw (lt-ltb _ _ over), leading-last (a .s .now) (l .i) h (l .buf) _ (l .at) (l .rest) (c .before .before .before .put-escape .ensures .1) o ∙ l .inv .1 .1 .1 .1 .1)
+put-blocks-requires : tie.Need-put-blocks-requires Inv-loop μ-loop
+put-blocks-requires c κs = left-run-room (c .before .before .before .loop .inv)
 
--- past the test the escape fits, and its length was given
-took : (c : tie.Else1 Inv-loop μ-loop) →
-    let held = c .before .before .before .before .before .before .before in
-    let b = getD (held .before .before .before .args .s .now) (held .loop .i) 0 in
-    (costOf b ≤ held .loop .rest) × (c .before .before .before .put-escape .result ≡ length (byteText b))
-took c = some-fits _ _ _ _ (c .before .before .before .put-escape .ensures .0) (c .if1 .left)
+add-from : tie.Need-add-from Inv-loop μ-loop
+add-from c = let r = run c in omega (arith, r .within)
 
-add-at : tie.Need-add-at Inv-loop μ-loop
-add-at c = let t = took c in omega arith
+block-end-requires : tie.Need-block-end-requires Inv-loop μ-loop
+block-end-requires c κs = run c .within
 
-sub-rest : tie.Need-sub-rest Inv-loop μ-loop
-sub-rest c = search needs
+add-put-bytes : tie.Need-add-put-bytes Inv-loop μ-loop
+add-put-bytes c = let r = run (c .before .before) in omega (arith, r .sum, r .room)
 
-sub-rest-2 : tie.Need-sub-rest-2 Inv-loop μ-loop
-sub-rest-2 c = let t = took c in omega arith
+sub-put-bytes : tie.Need-sub-put-bytes Inv-loop μ-loop
+sub-put-bytes c = c .before .block-end .ensures .0
 
-add-i : tie.Need-add-i Inv-loop μ-loop
-add-i c = search needs
+part-put-bytes-start : tie.Need-part-put-bytes-start Inv-loop μ-loop
+part-put-bytes-start c = c .before .block-end .ensures .0
+
+part-put-bytes-end : tie.Need-part-put-bytes-end Inv-loop μ-loop
+part-put-bytes-end c = c .before .block-end .ensures .1
+
+put-bytes-requires : tie.Need-put-bytes-requires Inv-loop μ-loop
+put-bytes-requires c κs =
+    let at-block-end = c .before .before in
+    let e = at-block-end .block-end in left-part-room (run (at-block-end .before)) (e .result) (e .ensures .0)
 
 loop-less : tie.Need-loop-less Inv-loop μ-loop
-loop-less c = search needs
+loop-less c =
+    let at-end = c .before .before .before .before .before in
+    let e = at-end .block-end .ensures in
+    let r = run (at-end .before) in
+    let turn = at-end .before .before .before .before .before .before in
+    let l = turn .before .loop in
+    let a = turn .before .before .before .before .args in
+    let t = turn .loop-test .taken in
+    dite (decLt (l .i + at-end .before .before .before .put-blocks .result) (length (a .s .now))) (λ h. omega (arith, e .2 h, e .1)) (λ h. omega (arith, e .0, e .1, r .within))
 
 loop-again : tie.Need-loop-again Inv-loop μ-loop
 loop-again c =
-    let turn = c .before .before .before .before .before .before in
-    let a = turn .before .before .before .before .args in
-    let l = turn .before .loop in
-    let h = turn .loop-test .taken in
-    let t = took c in
-    let n = escaped-turn (a .s .now) (l .i) h in
-    let k = leading-turn (a .s .now) (l .i) h (l .buf) _ (l .at) (l .rest) (c .before .before .before .put-escape .ensures .1) (t .0) (omega arith) in
-    (omega arith, (omega arith, (c .before .before .before .put-escape .kept .0 ∙ l .inv .1 .1 .0, (omega arith, (omega arith, rw (t .1) k ∙ l .inv .1 .1 .1 .1 .1)))))
+    let at-put-bytes = c .before .before in
+    let at-end = at-put-bytes .before .before .before in
+    let e = at-put-bytes .put-bytes .ensures in
+    rw (e .0) (left-part (run (at-end .before)) (at-end .block-end .result) _ (at-end .block-end .ensures .0) (at-end .block-end .ensures .1) (e .1))
 
-same-length-2 : tie.Need-same-length-2 Inv-loop μ-loop
-same-length-2 c = search needs
+same-length : tie.Need-same-length Inv-loop μ-loop
+same-length c = c .before .loop .inv .same
 
-returns-2 : tie.Need-returns-2 Inv-loop μ-loop
-unfolding escaped leading
-returns-2 c =
-    let a = c .before .before .before .before .args in
-    let l = c .before .loop in
-    let e : drop (l .i) (a .s .now) ≡ [] = drop-of-length-le (a .s .now) (c .loop-test .left) in
-    let n : length (escaped (drop (l .i) (a .s .now))) ≡ 0 = rw e in
-    let f : length (escaped (a .s .now)) ≤ length (a .s .now) + a .left = omega arith in
-    (rw (le-ltb _ _ f) (omega arith), sym (splice-nil (l .buf) (l .at)) ∙ (rw e at (l .inv .1 .1 .1 .1 .1)))
+returns : tie.Need-returns Inv-loop μ-loop
+returns c = left-none (c .before .loop .inv) (c .loop-test .left)
 
 pub put-escaped-spec : {M : Type 1} → statement M
 put-escaped-spec =
@@ -100,15 +100,18 @@ put-escaped-spec =
     Inv-loop
     μ-loop
     loop-holds
-    shared-slice-read-put-escape
-    put-escape-requires
-    same-length
-    returns
-    add-at
-    sub-rest
-    sub-rest-2
-    add-i
+    sub-put-blocks
+    part-put-blocks-start
+    part-put-blocks-end
+    put-blocks-requires
+    add-from
+    block-end-requires
+    add-put-bytes
+    sub-put-bytes
+    part-put-bytes-start
+    part-put-bytes-end
+    put-bytes-requires
     loop-less
     loop-again
-    same-length-2
-    returns-2)
+    same-length
+    returns)

@@ -1,15 +1,28 @@
-use mathlib.Core.Path.{_≡_, refl, sym, _∙_}
+use mathlib.Core.Path.{refl, sym, ap, _∙_}
 use Prim.Native.Nat.{_+_, _≤_}
 use native.Mathlib.Omega.{arith}
-use lib.ListN.{length, length-set}
+use lib.ListN.{length}
 use borrow.Author.Tests.{not-true, not-false}
 use borrow.Author.Needs.{needs}
-use Rattle.formatting.specs.Escape.{escaped}
-use Rattle.str_writer.specs.Write.{cursorFault}
-use Rattle.str_writer.proofs.Judging.{unless-met, cursor-fits, cursor-placed}
-use Rattle.quoted_writes.proofs.Quoting.{zero-over, some-fits, spare, quoted-none, quoted-over, quoted-done}
+use Rattle.formatting.specs.Escape.{quoted}
+use Rattle.str_writer.specs.declared.piece.Written.{Written}
+use Rattle.str_writer.specs.Write.{outcome}
+use Rattle.str_writer.proofs.Splice.{splice-nil}
+use Rattle.str_writer.proofs.Outcomes.{put-placed}
+use Rattle.str_writer.proofs.Judging.{cursor-fits, put-cursor}
+use Rattle.quoted_writes.proofs.Quoting.{behind-none, behind-some}
 use Rattle.quoted_writes.proofs.put_quoted.Statement.{statement}
 use Rattle.quoted_writes.proofs.put_quoted.Tie as tie
+
+-- past the test of the cursor it is in the buffer
+abbrev start : tie.Else1 → tie.Start
+start c = c .before .before .before .before .before
+
+fits : (c : tie.Else1) → start c .args .at ≤ length (start c .args .buf .now)
+fits c =
+    let at-cursor-fault = c .before .before in
+    let a = start c .args in
+    cursor-fits (a .buf .now) (a .at) _ (at-cursor-fault .cursor-fault .ensures (a .buf .now) refl) (sym (c .before .is-done .ensures) ∙ not-false _ (c .if1 .left))
 
 cursor-fault-requires : tie.Need-cursor-fault-requires
 cursor-fault-requires c κs = search needs
@@ -21,87 +34,51 @@ returns : tie.Need-returns
 returns c =
     let d = c .before .before in
     let a = d .before .before .before .args in
-    unless-met (cursorFault (a .buf .now) (a .at)) (a .buf .now) (a .at) _ _ (d .cursor-fault .ensures (a .buf .now) refl) (sym (c .before .is-done .ensures) ∙ not-true _ (c .if1 .taken))
+    put-cursor (a .buf .now) (a .at) (quoted (a .s .now)) _ (d .cursor-fault .ensures (a .buf .now) refl) (sym (c .before .is-done .ensures) ∙ not-true _ (c .if1 .taken))
 
--- past the test of the cursor there is room
-abbrev start : tie.Else1 → tie.Start
-start c = c .before .before .before .before .before
+sub-if3 : tie.Need-sub-if3
+sub-if3 c = fits (c .before)
 
-fits : (c : tie.Else1) → start c .args .at ≤ length (start c .args .buf .now)
-fits c =
-    let a = start c .args in
-    cursor-fits (a .buf .now) (a .at) _ (c .before .before .cursor-fault .ensures (a .buf .now) refl) (sym (c .before .is-done .ensures) ∙ not-false _ (c .if1 .left))
+put-short-requires : tie.Need-put-short-requires
+put-short-requires c κs = let h = fits (c .before .before .before) in (h, omega arith)
 
-sub-room : tie.Need-sub-room
-sub-room c = fits c
-
-add-if2 : tie.Need-add-if2
-add-if2 c = search needs
+same-length : tie.Need-same-length
+same-length c = search needs
 
 returns-2 : tie.Need-returns-2
 returns-2 c =
-    let a = start (c .before) .args in
-    let h = fits (c .before) in
-    quoted-none (a .buf .now) (a .at) (a .s .now) h (c .if2 .taken) ∙ cursor-placed (a .buf .now) (a .at) _ h
+    let at-put-short = c .before .before in
+    let d = at-put-short .before .before .before .before in
+    let a = start d .args in
+    at-put-short .put-short .ensures ∙ put-placed (a .buf .now) (a .at) (quoted (a .s .now)) (fits d)
 
-slice-write-buf : tie.Need-slice-write-buf
-slice-write-buf c = let h = fits (c .before) in omega arith
+put-rest-requires : tie.Need-put-rest-requires
+put-rest-requires c κs =
+    let d = c .before .before in
+    let a = start d .args in
+    (fits d, omega arith, refl, splice-nil (a .buf .now) (a .at + 1))
 
-add-put-escaped : tie.Need-add-put-escaped
-add-put-escaped c = let h = fits (c .before .before) in omega arith
-
-add-put-escaped-2 : tie.Need-add-put-escaped-2
-add-put-escaped-2 c = search needs
-
-sub-put-escaped : tie.Need-sub-put-escaped
-sub-put-escaped c = search needs
-
-put-escaped-requires : tie.Need-put-escaped-requires
-put-escaped-requires c κs = let h = fits (c .before .before) in simp length-set (omega arith)
-
-same-length : tie.Need-same-length
-same-length c = (c .before .before .before .put-escaped .kept .0) ∙ simp length-set
-
--- past the test of the room
-abbrev roomy : tie.Else3 → tie.Else1
-roomy c = c .before .before .before .before .before .before
+same-length-2 : tie.Need-same-length-2
+same-length-2 c = search needs
 
 returns-3 : tie.Need-returns-3
 returns-3 c =
-    let d = c .before .before .before .before .before .before in
+    let at-put-rest = c .before .before .before in
+    let d = at-put-rest .before .before .before in
     let a = start d .args in
-    let e = c .before .before .before .put-escaped .ensures in
-    let h = fits d in
-    quoted-over (a .buf .now) (a .at) (a .s .now) (omega arith) _ (e .1) (zero-over _ _ _ _ (e .0) (omega arith) (c .if3 .taken)) ∙ cursor-placed (a .buf .now) (a .at) _ h
+    let e = at-put-rest .put-rest in
+    ap (λ (w : Written). outcome w (e .last .0)) (behind-none (a .at) (e .result) (c .if4 .taken)) ∙ e .ensures ∙ put-placed (a .buf .now) (a .at) (quoted (a .s .now)) (fits d)
 
--- past the test all escapes fit, and the place after them was given
-took : (c : tie.Else3) →
-    let a = start (roomy c) .args in
-    (length (escaped (a .s .now)) ≤ length (a .s .now) + spare (a .buf .now) (a .at) (a .s .now)) × (c .before .before .before .put-escaped .result ≡ a .at + 1 + length (escaped (a .s .now)))
-took c = some-fits _ _ _ _ (c .before .before .before .put-escaped .ensures .0) (c .if3 .left)
-
-slice-write-buf-2 : tie.Need-slice-write-buf-2
-slice-write-buf-2 c =
-    let a = start (roomy c) .args in
-    let t = took c in
-    let h = fits (roomy c) in
-    omega (arith, c .before .before .before .put-escaped .kept .0, length-set (a .buf .now) (a .at) 34)
-
-add-t16 : tie.Need-add-t16
-add-t16 c =
-    let t = took c in
-    let h = fits (roomy c) in
-    omega arith
-
-same-length-2 : tie.Need-same-length-2
-same-length-2 c = simp length-set ((c .before .before .before .put-escaped .kept .0) ∙ simp length-set)
+same-length-3 : tie.Need-same-length-3
+same-length-3 c = search needs
 
 returns-4 : tie.Need-returns-4
 returns-4 c =
-    let a = start (roomy c) .args in
-    let t = took c in
-    let h = fits (roomy c) in
-    rw (t .1) (quoted-done (a .buf .now) (a .at) (a .s .now) (omega arith) _ (c .before .before .before .put-escaped .ensures .1) (t .0) ∙ cursor-placed (a .buf .now) (a .at) _ h)
+    let at-put-rest = c .before .before .before in
+    let d = at-put-rest .before .before .before in
+    let a = start d .args in
+    let e = at-put-rest .put-rest in
+    ap (λ (w : Written). outcome w (e .last .0)) (behind-some (a .at) (e .result) (c .if4 .left)) ∙ e .ensures ∙ put-placed (a .buf .now) (a .at) (quoted (a .s .now)) (fits d)
 
 pub put-quoted-spec : {M : Type 1} → statement M
 put-quoted-spec =
@@ -110,17 +87,12 @@ put-quoted-spec =
     cursor-fault-requires
     is-done-requires
     returns
-    sub-room
-    add-if2
-    returns-2
-    slice-write-buf
-    add-put-escaped
-    add-put-escaped-2
-    sub-put-escaped
-    put-escaped-requires
+    sub-if3
+    put-short-requires
     same-length
-    returns-3
-    slice-write-buf-2
-    add-t16
+    returns-2
+    put-rest-requires
     same-length-2
+    returns-3
+    same-length-3
     returns-4)

@@ -3,7 +3,7 @@ use borrow.Author.Tests.{not-true, not-false}
 use borrow.Author.Needs.{needs}
 use Rattle.formatting.specs.Flags.{defaultFlags}
 use Rattle.str_writer.specs.Value.{ascii, debug}
-use Rattle.str_writer.proofs.Judging.{write-met, ascii-quoted}
+use Rattle.str_writer.proofs.Judging.{write-met, ascii-emit}
 use Rattle.quoted_writes.proofs.write_ascii_range_debug.Statement.{statement}
 use Rattle.quoted_writes.proofs.write_ascii_range_debug.Tie as tie
 
@@ -30,7 +30,7 @@ returns-2 c =
     let p = c .before .before .before .before in
     let d = p .before .before in
     let a = d .before .before .before .args in
-    ascii-quoted defaultFlags (a .buf .now) (a .at) _ (a .s .now) (a .range) (d .judge-ascii .ensures (a .buf .now) refl debug (a .range)) (sym (p .before .is-done .ensures) ∙ not-false _ (p .if1 .left)) _ (c .before .before .put-quoted-part .ensures)
+    c .before .before .put-quoted-part .ensures ∙ ascii-emit defaultFlags (a .buf .now) (a .at) _ debug (a .s .now) (a .range) (d .judge-ascii .ensures (a .buf .now) refl debug (a .range)) (sym (p .before .is-done .ensures) ∙ not-false _ (p .if1 .left))
 
 pub write-ascii-range-debug-spec : {M : Type 1} → statement M
 write-ascii-range-debug-spec =

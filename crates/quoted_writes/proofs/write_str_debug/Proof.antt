@@ -3,7 +3,7 @@ use borrow.Author.Tests.{not-true, not-false}
 use borrow.Author.Needs.{needs}
 use Rattle.formatting.specs.Flags.{defaultFlags}
 use Rattle.str_writer.specs.Value.{str, debug, whole}
-use Rattle.str_writer.proofs.Judging.{judged-whole-str, write-met, whole-quoted}
+use Rattle.str_writer.proofs.Judging.{judged-whole-str, write-met, whole-emit}
 use Rattle.quoted_writes.proofs.write_str_debug.Statement.{statement}
 use Rattle.quoted_writes.proofs.write_str_debug.Tie as tie
 
@@ -34,7 +34,7 @@ returns-2 c =
     let a = d .before .before .before .args in
     let s = a .s .now in
     let e = judged-whole-str (a .buf .now) (a .at) debug s _ (d .judge-str .ensures (a .buf .now) refl debug (whole s)) in
-    whole-quoted defaultFlags (a .buf .now) (a .at) _ s e (sym (p .before .is-done .ensures) ∙ not-false _ (p .if1 .left)) _ (c .before .before .put-quoted .ensures)
+    c .before .before .put-quoted .ensures ∙ whole-emit defaultFlags (a .buf .now) (a .at) _ debug s e (sym (p .before .is-done .ensures) ∙ not-false _ (p .if1 .left))
 
 pub write-str-debug-spec : {M : Type 1} → statement M
 write-str-debug-spec =

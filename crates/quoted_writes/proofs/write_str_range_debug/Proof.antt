@@ -5,7 +5,7 @@ use Rattle.error.specs.Answer.{answerOf}
 use Rattle.formatting.specs.Flags.{defaultFlags}
 use Rattle.str_writer.specs.Value.{str, debug}
 use Rattle.str_writer.specs.Write.{writeFault}
-use Rattle.str_writer.proofs.Judging.{judged-met, judged-cut, write-met, str-quoted}
+use Rattle.str_writer.proofs.Judging.{judged-met, judged-cut, write-met, str-emit}
 use Rattle.quoted_writes.proofs.write_str_range_debug.Statement.{statement}
 use Rattle.quoted_writes.proofs.write_str_range_debug.Tie as tie
 
@@ -59,7 +59,7 @@ returns-3 c =
     let p = c .before .before .before .before in
     let q = p .before .before in
     let a = start q .args in
-    str-quoted defaultFlags (a .buf .now) (a .at) _ (a .s .now) (a .range) (told q) (sym (p .before .is-done2 .ensures) ∙ not-false _ (p .if2 .left)) _ (c .before .before .put-quoted-part .ensures)
+    c .before .before .put-quoted-part .ensures ∙ str-emit defaultFlags (a .buf .now) (a .at) _ debug (a .s .now) (a .range) (told q) (sym (p .before .is-done2 .ensures) ∙ not-false _ (p .if2 .left))
 
 pub write-str-range-debug-spec : {M : Type 1} → statement M
 write-str-range-debug-spec =

@@ -2,9 +2,10 @@ use borrow.Author.Needs.{needs}
 use mathlib.Core.Path.{refl, _∙_}
 use Rattle.formatting.specs.Escape.{quoted}
 use Rattle.utils.specs.Text.{part}
-use Rattle.str_writer.proofs.Values.{clamped-order}
+use Rattle.pwrapper.proofs.Ranges.{clamped-order}
+use Rattle.quoted_writes.proofs.Quoting.{count-within}
 use Rattle.writer_backend.proofs.Output.{counts, adds}
-use Rattle.value_writes.proofs.ValueLaws.{clamped-length, quoted-length, quoted-refused}
+use Rattle.value_writes.proofs.ValueLaws.{clamped-length, quoted-refused}
 use Rattle.value_writes.proofs.add_string.Statement.{statement}
 use Rattle.value_writes.proofs.add_string.Tie as tie
 
@@ -37,7 +38,7 @@ returns-3 c b t =
     let at-enum-told2 = at-compute .before in
     let a = at-enum-told2 .before .before .before .args in
     let q = at-compute .compute-utf8-debug-len-in-range in
-    rw (at-enum-told2 .enum-told2 .given .1) (c .add-len2 .ensures b ∙ adds (a .m) refl t b (quoted (part (a .s .now) (a .range))) (quoted-length (part (a .s .now) (a .range)) (q .result) (q .ensures) (c .before .if1 .left)))
+    rw (at-enum-told2 .enum-told2 .given .1) (c .add-len2 .ensures b ∙ adds (a .m) refl t b (quoted (part (a .s .now) (a .range))) (count-within (part (a .s .now) (a .range)) (q .result) (q .ensures) (c .before .if1 .left)))
 
 pub add-string-spec : {M : Type 1} → statement M
 add-string-spec = tie.close (tie.spec (λ c. search needs) (λ c κs. search needs) sub-add-len (λ c κs. search needs) (λ c. search needs) (λ c κs. search needs) (λ c κs. search needs) returns (λ c κs. search needs) returns-2 returns-3)

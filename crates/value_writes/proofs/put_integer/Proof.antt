@@ -2,7 +2,7 @@ use borrow.Author.Needs.{needs}
 use mathlib.Core.Path.{refl, sym, ap, _∙_}
 use lib.ListN.{length}
 use Rattle.error.specs.declared.Answer.the-variants.{Done}
-use Rattle.str_writer.specs.Value.{integer, textOf, inputFault, cutFault, leaves}
+use Rattle.str_writer.specs.Value.{integer, textOf, inputFault, cutFault}
 use Rattle.str_writer.specs.Write.{put}
 use Rattle.writer_backend.specs.Output.{modeOf}
 use Rattle.writer_backend.proofs.Output.{counts, writes, adds, wrote-at}
@@ -19,7 +19,7 @@ returns c f m k z h p =
     value-counted (a .m) (a .buf .now) f (integer m k z) h Done (judged-uncut (modeOf (a .m)) (integer m k z) Done refl refl) refl refl (counts (a .m) (at-is-counting .is-counting .ensures) (at-if1 .if1 .taken)) (c .add-len .ensures (a .buf .now) ∙ adds (a .m) (at-is-counting .is-counting .ensures) (at-if1 .if1 .taken) (a .buf .now) (textOf f (integer m k z)) (c .before .debug-len .ensures ∙ ap length (sym p)))
 
 returns-2 : tie.Need-returns-2
-unfolding inputFault cutFault leaves put
+unfolding inputFault cutFault
 returns-2 c f m k z h p =
     let at-write-debug = c .before .before .before in
     let at-if1 = at-write-debug .before .before in

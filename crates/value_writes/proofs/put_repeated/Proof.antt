@@ -5,9 +5,10 @@ use lib.ListN.{replicate, length-replicate}
 use Rattle.error.specs.declared.Answer.the-variants.{Done}
 use Rattle.formatting.specs.Flags.{defaultFlags}
 use Rattle.str_writer.specs.Value.{repeated, textOf, inputFault, cutFault}
+use Rattle.str_writer.proofs.Outcomes.{put-write}
 use Rattle.writer_backend.specs.Output.{modeOf}
 use Rattle.writer_backend.proofs.Output.{counts, writes, adds, wrote-at}
-use Rattle.value_writes.proofs.ValueLaws.{judged-uncut, value-counted, value-placed, write-unmet}
+use Rattle.value_writes.proofs.ValueLaws.{judged-uncut, value-counted, value-placed}
 use Rattle.value_writes.proofs.put_repeated.Statement.{statement}
 use Rattle.value_writes.proofs.put_repeated.Tie as tie
 
@@ -27,7 +28,7 @@ returns-2 c f h =
     let a = at-is-counting .before .before .args in
     c .from-written .ensures _
     ∙ wrote-at (a .m) (at-is-counting .is-counting .ensures) (at-if1 .if1 .left) (at-write .write-ascii-repeated .result) _
-    ∙ value-placed (a .m) (a .buf .now) f (repeated (a .c) (a .n)) h Done (judged-uncut (modeOf (a .m)) (repeated (a .c) (a .n)) Done refl refl) refl refl (writes (a .m) (at-is-counting .is-counting .ensures) (at-if1 .if1 .left)) (at-write .write-ascii-repeated .ensures ∙ write-unmet defaultFlags (a .buf .now) (a .m .number) (repeated (a .c) (a .n)) refl refl)
+    ∙ value-placed (a .m) (a .buf .now) f (repeated (a .c) (a .n)) h Done (judged-uncut (modeOf (a .m)) (repeated (a .c) (a .n)) Done refl refl) refl refl (writes (a .m) (at-is-counting .is-counting .ensures) (at-if1 .if1 .left)) (at-write .write-ascii-repeated .ensures ∙ sym (put-write defaultFlags (a .buf .now) (a .m .number) (repeated (a .c) (a .n)) refl refl))
 
 pub put-repeated-spec : {M : Type 1} → statement M
 put-repeated-spec = tie.close (tie.spec (λ c κs. search needs) (λ c κs. search needs) returns (λ c κs. search needs) (λ c κs. search needs) (λ c. search needs) returns-2)

@@ -1,7 +1,6 @@
 use borrow.Author.Needs.{needs}
 use mathlib.Core.Path.{sym, _∙_}
-use Rattle.str_writer.specs.Value.{str, display, debug, textOf, leaves}
-use Rattle.str_writer.specs.Write.{put}
+use Rattle.str_writer.specs.Value.{str, display, debug, textOf}
 use Rattle.writer_backend.proofs.Output.{counts, writes, wrote-at}
 use Rattle.value_writes.specs.Values.{formOf}
 use Rattle.value_writes.proofs.ValueLaws.{value-refused, value-counted, value-placed}
@@ -28,7 +27,7 @@ returns-2 c f h =
     value-counted (a .m) (a .buf .now) f (str (formOf (a .form)) (a .s .now) (a .range)) h (x .result) (x .ensures (formOf (a .form))) (at-is-done .is-done .ensures) (at-if1 .if1 .left) (counts (a .m) (at-if2 .before .is-counting .ensures) (at-if2 .if2 .taken)) (c .add-string .ensures (a .buf .now) (sym (at-if2 .before .is-counting .ensures) ∙ at-if2 .if2 .taken))
 
 returns-3 : tie.Need-returns-3
-unfolding textOf leaves put
+unfolding textOf
 returns-3 c f h =
     let at-put = c .before .before .before in
     let at-enum-told = at-put .before .before in
@@ -43,7 +42,7 @@ returns-3 c f h =
     ∙ value-placed (a .m) (a .buf .now) f (str display (a .s .now) (a .range)) h (x .result) (x .ensures display) (at-is-done .is-done .ensures) (at-if1 .if1 .left) (writes (a .m) (at-if2 .before .is-counting .ensures) (at-if2 .if2 .left)) (at-put .put-part .ensures))
 
 returns-4 : tie.Need-returns-4
-unfolding textOf leaves put
+unfolding textOf
 returns-4 c f h =
     let at-put = c .before .before .before in
     let at-enum-told2 = at-put .before .before in

@@ -94,13 +94,13 @@ counted-on F (just c) k = run-kept (counting 0) [] F (c ∷ []) k
 counted-on F none k = k
 
 as-counting : (c n : ℕ) → Kept (counting 0) [] (asMode c n) [] → asMode c n ≡ counting n
-as-counting zero n k = absurd k
+as-counting zero n k = absurd (k .0)
 as-counting (suc c) n k = refl
 
 call-counts : (m : ℕ) (d : Head) (s : List ℕ) (c : Option ModelCall) (r : HeadStep) (z : List ℕ) → _≡_ {A = Out} (viewOut r z []) (stepOr (countingAt m d s) c)
     → stepOr (countingAt m d s) c .state .output .mode ≡ counting (r .head .mode .number)
 call-counts m d s c r z e =
-    let k = subst (λ (u : Out). KeptIn (counting 0) [] (u .state .output)) (sym e) (counted-on (countingAt m d s) c tt) in
+    let k = subst (λ (u : Out). KeptIn (counting 0) [] (u .state .output)) (sym e) (counted-on (countingAt m d s) c (refl, tt)) in
     ap (λ (u : Out). u .state .output .mode) (sym e) ∙ as-counting (r .head .mode .mode % 2) (r .head .mode .number) k
 
 module _ {M : Type 1} (𝓤 : URA M) (H : Heap 𝓤) (A : Atoms 𝓤) (mem′ : Memory → SProp 𝓤) (run : Routine → Fun 𝓤) where

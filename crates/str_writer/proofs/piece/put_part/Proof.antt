@@ -1,5 +1,5 @@
 use borrow.Author.Needs.{needs}
-use Rattle.str_writer.proofs.Values.{clamped-order, clamped-end, clamped-part}
+use Rattle.pwrapper.proofs.Ranges.{clamped-order, clamped-end, clamped-part}
 use Rattle.str_writer.proofs.piece.put_part.Statement.{statement}
 use Rattle.str_writer.proofs.piece.put_part.Tie as tie
 

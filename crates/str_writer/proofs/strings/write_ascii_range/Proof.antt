@@ -30,7 +30,7 @@ returns-2 c =
     let p = c .before .before .before .before in
     let d = p .before .before in
     let a = d .before .before .before .args in
-    c .before .before .put-part .ensures ∙ ascii-emit defaultFlags (a .buf .now) (a .at) _ (a .s .now) (a .range) (d .judge-ascii .ensures (a .buf .now) refl display (a .range)) (sym (p .before .is-done .ensures) ∙ not-false _ (p .if1 .left))
+    c .before .before .put-part .ensures ∙ ascii-emit defaultFlags (a .buf .now) (a .at) _ display (a .s .now) (a .range) (d .judge-ascii .ensures (a .buf .now) refl display (a .range)) (sym (p .before .is-done .ensures) ∙ not-false _ (p .if1 .left))
 
 pub write-ascii-range-spec : {M : Type 1} → statement M
 write-ascii-range-spec =

@@ -34,7 +34,7 @@ returns-2 c =
     let a = d .before .before .before .args in
     let s = a .s .now in
     let e = judged-whole-str (a .buf .now) (a .at) display s _ (d .judge-str .ensures (a .buf .now) refl display (whole s)) in
-    c .before .before .put .ensures ∙ whole-emit defaultFlags (a .buf .now) (a .at) _ s e (sym (p .before .is-done .ensures) ∙ not-false _ (p .if1 .left))
+    c .before .before .put .ensures ∙ whole-emit defaultFlags (a .buf .now) (a .at) _ display s e (sym (p .before .is-done .ensures) ∙ not-false _ (p .if1 .left))
 
 pub write-str-spec : {M : Type 1} → statement M
 write-str-spec =

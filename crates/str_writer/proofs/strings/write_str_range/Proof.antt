@@ -59,7 +59,7 @@ returns-3 c =
     let p = c .before .before .before .before in
     let q = p .before .before in
     let a = start q .args in
-    c .before .before .put-part .ensures ∙ str-emit defaultFlags (a .buf .now) (a .at) _ (a .s .now) (a .range) (told q) (sym (p .before .is-done2 .ensures) ∙ not-false _ (p .if2 .left))
+    c .before .before .put-part .ensures ∙ str-emit defaultFlags (a .buf .now) (a .at) _ display (a .s .now) (a .range) (told q) (sym (p .before .is-done2 .ensures) ∙ not-false _ (p .if2 .left))
 
 pub write-str-range-spec : {M : Type 1} → statement M
 write-str-range-spec =
