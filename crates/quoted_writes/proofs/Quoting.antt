@@ -23,7 +23,7 @@ use Rattle.pwrapper.proofs.Escapes.{count-fits, count-passes}
 use Rattle.str_writer.specs.Write.{Outcome, outcome, splice, placed}
 use Rattle.str_writer.proofs.Splice.{splice-nil, splice-one, splice-splice, length-splice}
 use Rattle.str_writer.proofs.Outcomes.{placed-done}
-use Rattle.quoted_writes.specs.Marked.{allBare, behind}
+use Rattle.quoted_writes.specs.Marked.{allBare, CopiesBare, behind}
 
 -- the text of one byte, of one to four bytes
 abbrev pub byteText : ℕ → List ℕ
@@ -225,7 +225,7 @@ module _ {b₀ : List ℕ} {w : ℕ} {s b : List ℕ} {at i : ℕ} (l : Left b�
       rw m at (left-step (take n (drop i s)) (i + n) b′ h c k)
 
   -- as a function gives them that copies the bytes from i on up to an escape
-  pub left-run : (n : ℕ) (b′ : List ℕ) → let t = take (length s - i) (drop i s) in (n ≤ length t) × (allBare (take n t) ≡ true) × (b′ ≡ splice b at (take n t)) → Left b₀ w s b′ (at + n) (i + n)
+  pub left-run : (n : ℕ) (b′ : List ℕ) → CopiesBare b at (take (length s - i) (drop i s)) n b′ → Left b₀ w s b′ (at + n) (i + n)
   left-run n b′ e =
       let t = from-on s i in
       let m : n ≤ length (drop i s) = rw t at (e .0) in

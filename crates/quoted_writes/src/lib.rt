@@ -13,7 +13,7 @@ ghost use Rattle.str_writer.specs.Value.{str, ascii, debug, whole};
 ghost use Rattle.str_writer.specs.Write.{outcome, splice, placed, write};
 ghost use Rattle.str_writer.specs.Write.{put as putText};
 ghost use Rattle.utils.specs.Text.{part};
-ghost use Rattle.quoted_writes.specs.Marked.{allBare, behind};
+ghost use Rattle.quoted_writes.specs.Marked.{allBare, CopiesBare, behind};
 use error::Answer;
 use formatting::Escape;
 use formatting::HexFormatting;
@@ -202,7 +202,7 @@ fn block_end(i: usize, end: usize) -> usize
 // many bytes they have.
 fn put_blocks(buf: &mut [u8], at: usize, s: &[u8]) -> usize
     requires { ⌜ at + length (now s) ≤ length (now buf) ⌝ }
-    ensures { λ r. ⌜ (r ≤ length (now (s .entry))) × (allBare (take r (now (s .entry))) ≡ true) × (now (buf .exit) ≡ splice (now (buf .entry)) at (take r (now (s .entry)))) ⌝ }
+    ensures { λ r. ⌜ CopiesBare (now (buf .entry)) at (now (s .entry)) r (now (buf .exit)) ⌝ }
 {
     let mut i = 0;
     while BLOCK <= s.len() - i {
@@ -282,7 +282,7 @@ fn put_bytes(buf: &mut [u8], w: usize, s: &[u8]) -> usize
 // Copies the bytes of s up to its first escape, and gives how many they are.
 fn put_bare(buf: &mut [u8], at: usize, s: &[u8]) -> usize
     requires { ⌜ at + length (now s) ≤ length (now buf) ⌝ }
-    ensures { λ r. ⌜ (r ≤ length (now (s .entry))) × (allBare (take r (now (s .entry))) ≡ true) × (now (buf .exit) ≡ splice (now (buf .entry)) at (take r (now (s .entry)))) ⌝ }
+    ensures { λ r. ⌜ CopiesBare (now (buf .entry)) at (now (s .entry)) r (now (buf .exit)) ⌝ }
 {
     let mut i = 0;
     while i < s.len() {
