@@ -194,9 +194,6 @@ unless-met (some a) b at o r e n = rw e
 unless-none : (f : Option Answer) (b : List ℕ) (at : ℕ) (o : Outcome) → f ≡ none → o ≡ unless f b at o
 unless-none f b at o e = rw e
 
-pub cursor-placed : (b : List ℕ) (at : ℕ) (o : Outcome) → at ≤ length b → o ≡ unless (cursorFault b at) b at o
-cursor-placed b at o h = unless-none (cursorFault b at) b at o (simp (le-ltb (length b) at h))
-
 -- a piece of text: refused, or put
 module _ (b : List ℕ) (at : ℕ) (t : List ℕ) (x : Answer) where
   pub put-cursor : x ≡ answerOf (cursorFault b at) → isDone x ≡ false → refused x b at ≡ put b at t
