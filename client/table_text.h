@@ -5,12 +5,9 @@
  * words at the end that are no whole call are left out.
  *
  * The answer is the run's first refusal, 0 for none. The calls after a refused one are played all
- * the same. But once a piece does not fit, nothing more is written: that call and every later one
- * answer 1, unless they meet another refusal, which is tested before it.
- *
- * Flags of 12 and above are none: the run is answered with 8, or with 9 if the cursor is past the
- * buffer, and is not played: the total is 0 or the cursor as it was, nothing is open, no answer is
- * stored and no byte changed.
+ * the same. Flags of 12 and above are none: the run is answered with 8, or with 9 if the cursor is
+ * past the buffer, and is not played: the total is 0 or the cursor as it was, nothing is open, no
+ * answer is stored and no byte changed.
  *
  * Every pointer is to as many elements as its length says, and none may overlap what buf, total,
  * cursor, open or answers points to. */
@@ -29,27 +26,23 @@ extern "C" {
  * Where the answer is 0 and *open (of table_text_count_each) is 0, that is, every builder is finished
  * and every sub-formatter closed, writing the same run from place p answers 0 exactly if p + total is
  * at most buf_len and no string is cut inside a character, and then leaves exactly the text that was
- * counted. A run that leaves something open can be answered with 0 in counting and yet have pieces
- * missing from its total, since in counting a builder keeps a 6 until it is finished. */
+ * counted. A run that leaves something open can be answered with 0 in counting and in writing and yet
+ * have pieces missing, since a builder keeps a refusal until it is finished. */
 uint8_t table_text_count(uint64_t flags, const uint64_t *calls, size_t calls_len,
                          const uint8_t *text, size_t text_len, size_t *total);
 
 /* Writes a run into buf from place *cursor on: the place after it is left in *cursor.
  *
  * Whatever the answer, only bytes from the place that *cursor was to the place that it is can have
- * changed: all before and all behind are as they were. Where the answer is 1, what stands between is a
- * beginning of the text, made of whole pieces: what comes before the first piece that did not fit. A
- * value is one piece, and so is a name, a `: `, a separator or the spaces of a margin. Where the answer
- * is another refusal, the calls after the refused one may stand there too. In neither case is it the
- * text, and it is not to be sent as such. */
+ * changed: all before and all behind are as they were. Where the answer is not 0, what stands between
+ * is not to be sent: pieces of later calls may stand there. */
 uint8_t table_text_write(uint64_t flags, uint8_t *buf, size_t buf_len, size_t *cursor,
                          const uint64_t *calls, size_t calls_len,
                          const uint8_t *text, size_t text_len);
 
 /* The same, and more is left: in *open how many builders and sub-formatters are open at the end, and
  * in answers[i] the answer to call i, counted from 0, as far as answers has room. What answers has
- * behind the calls is left as it was. In writing the first 1 is that of the call whose piece did not
- * fit, also if that is an opening, a field or an entry. */
+ * behind the calls is left as it was. */
 uint8_t table_text_count_each(uint64_t flags, const uint64_t *calls, size_t calls_len,
                               const uint8_t *text, size_t text_len, size_t *total,
                               size_t *open, uint8_t *answers, size_t answers_len);

@@ -38,8 +38,8 @@ fn consistent(e: &Each, calls: &[u64]) -> bool {
     let mut open = 0;
     for (words, answer) in calls.chunks_exact(5).zip(&e.answers) {
         open += match (words[0], *answer) {
-            (0..=3 | 8, 0 | 1) => 1,
-            (7, 0..=7) | (9, 0 | 1) => -1,
+            (0..=3 | 8, 0) => 1,
+            (7, 0..=7) | (9, 0) => -1,
             _ => 0,
         };
     }
@@ -90,27 +90,6 @@ fn given(words: &Encoded, flags: u64, before: &[u8], at: usize, less: usize) -> 
     }
 }
 
-/// The call that was refused with 1 before any other.
-fn stop(written: &Each) -> Option<usize> {
-    written.answers.iter().position(|a| *a == 1)
-}
-
-/// Whether a run that was refused with 1 stopped there (document 02, ticket 8): every later answer is 1
-/// or one of those that are tested before it, and the calls up to that one leave the same cursor and
-/// the same bytes.
-fn stopped(g: &Given, words: &Encoded, flags: u64, before: &[u8], at: usize) -> bool {
-    let written = &g.written[0];
-    let Some(k) = stop(written) else {
-        return true;
-    };
-    let mut bytes = before.to_vec();
-    let calls = &words.calls[..5 * (k + 1)];
-    let (_, cursor) = library::write(flags, calls, &words.text, &mut bytes, at);
-    let answers = &written.answers[k..words.calls.len() / 5];
-    answers.iter().all(|a| matches!(a, 1..=5 | 7..=9))
-        && (cursor, &bytes) == (written.number, &g.buffers[0])
-}
-
 /// Whether what was given is right: answers of document 01, the cursor moved forward inside the
 /// buffer over well-formed UTF-8, and no byte changed before where it was or from where it is on. A
 /// cursor past the buffer is 9 throughout. Flags from 12 on are refused with 8, after 9, and nothing
@@ -145,9 +124,9 @@ fn right(g: &Given, calls: &[u64], flags: u64, before: &[u8], at: usize) -> bool
 }
 
 /// Damaged words, for our library alone: it answers and ends, and rightly; with less room the answers
-/// are the first ones, and all exports agree. Gives how many stopped and how many were wrong.
-pub fn damaged(r: &mut Random, count: u64) -> (u64, u64) {
-    let (mut stops, mut bad) = (0, 0);
+/// are the first ones, and all exports agree. Gives how many were wrong.
+pub fn damaged(r: &mut Random, count: u64) -> u64 {
+    let mut bad = 0;
     for _ in 0..count {
         let words = damaged_words(r);
         let less = r.below(words.calls.len() as u64 / 5 + 3) as usize;
@@ -165,9 +144,7 @@ pub fn damaged(r: &mut Random, count: u64) -> (u64, u64) {
                 .iter()
                 .all(|[full, e]| shorter(e, full))
             && g.buffers.iter().all(|b| *b == g.buffers[0]);
-        stops += stop(&g.written[0]).is_some() as u64;
-        let stopped = stopped(&g, &words, flags, &before, at);
-        if !agree || !stopped || !right(&g, &words.calls, flags, &before, at) {
+        if !agree || !right(&g, &words.calls, flags, &before, at) {
             bad += 1;
             if bad < 20 {
                 let e = (&g.counted, &g.written);
@@ -178,7 +155,7 @@ pub fn damaged(r: &mut Random, count: u64) -> (u64, u64) {
             }
         }
     }
-    (stops, bad)
+    bad
 }
 
 /// Flags from 12 on for single calls with the number n of a width: 8, after 9, and nothing changes.

@@ -1,13 +1,11 @@
 //! Runs of calls, single writes and truncations through const_format and through our static
 //! libraries. Small inputs are tried whole, the rest by chance from a seed. Compared are the answer
 //! to every call, the total or cursor, the open entries, the margin, and every byte of the buffer,
-//! which has non-zero contents before. In writing the Rust is the reference up to the first piece that
-//! is refused with 1: stop.rs says what is compared there and what is expected of ours behind it.
-//! After a single write of a quoted text that was refused with 1 it is the reference before the cursor
-//! only: from there on our buffer must be what it was.
+//! which has non-zero contents before. After a quoted text that was refused with 1 the Rust is the
+//! reference before the cursor only: from there on our buffer must be what it was.
 //!
 //! compare SEED COUNT: compares, with COUNT runs by chance. compare --sample COUNT SEED: prints runs
-//! with const_format's answers up to there, one to a line, for crates/rust_replay.
+//! with const_format's answers, one to a line, for crates/rust_replay.
 
 #[path = "alone.rs"]
 mod alone;
@@ -19,15 +17,12 @@ mod library;
 mod random;
 #[path = "single.rs"]
 mod single;
-#[path = "stop.rs"]
-mod stop;
 
 use calls::*;
 use const_format::ComputeStrLength;
 use library::{Each, UNTOUCHED};
 use random::{random_place, random_run, Random};
 use single::{edges, signed, single, single_count, to_integer};
-use stop::{expected_write, put, Text};
 
 #[derive(Default)]
 struct Tally {
@@ -38,15 +33,11 @@ struct Tally {
     open: u64,
     margins: u64,
     in_full: u64,
+    left_high: u64,
     left_out: u64,
     left_out_wrong: u64,
     quoted_refused: u64,
     strays: u64,
-    calls: u64,
-    stopped: u64,
-    held: u64,
-    calls_left: u64,
-    runs_left: u64,
 }
 
 impl Tally {
@@ -61,7 +52,7 @@ impl Tally {
         if ours != theirs {
             self.differ += 1;
             if self.differ < 20 {
-                println!("{what}: {ours:?}, expected {theirs:?}: {input:?}");
+                println!("{what}: {ours:?}, const_format {theirs:?}: {input:?}");
             }
         }
     }
@@ -80,14 +71,27 @@ fn is_quoted_text(call: &Call) -> bool {
     )
 }
 
-/// The buffer as const_format left it, but from the cursor on as it was where a quoted text was refused
-/// with 1: the Rust may leave bytes there then, and is no reference (document 02, ticket 5).
-fn without_strays(t: &mut Tally, bytes: Vec<u8>, cursor: usize, quoted_refused: bool) -> Vec<u8> {
+/// Whether a quoted text of a run was refused with 1: the Rust may then leave bytes past the cursor,
+/// and is no reference there (document 02, ticket 5).
+fn is_quoted_refused(run: &[Call], answers: &[u8]) -> bool {
+    run.iter()
+        .zip(answers)
+        .any(|(call, answer)| *answer == 1 && is_quoted_text(call))
+}
+
+/// The buffer as const_format left it before the cursor, and as it was from there on.
+fn without_strays(mut bytes: Vec<u8>, cursor: usize) -> Vec<u8> {
+    let before = contents(bytes.len());
+    bytes[cursor..].copy_from_slice(&before[cursor..]);
+    bytes
+}
+
+/// The buffer that ours should leave where const_format left these bytes.
+fn expected(t: &mut Tally, bytes: Vec<u8>, cursor: usize, quoted_refused: bool) -> Vec<u8> {
     if !quoted_refused {
         return bytes;
     }
-    let mut cleared = contents(bytes.len());
-    cleared[..cursor].copy_from_slice(&bytes[..cursor]);
+    let cleared = without_strays(bytes.clone(), cursor);
     t.quoted_refused += 1;
     t.strays += (cleared != bytes) as u64;
     cleared
@@ -155,19 +159,21 @@ fn compare_count(t: &mut Tally, run: &[Call], words: &Encoded, flags: u64) -> us
     theirs.number
 }
 
-/// A run written by both; `text` is const_format's text of the run, or of one that begins with it.
-fn compare_write(
-    t: &mut Tally,
-    run: &[Call],
-    words: &Encoded,
-    text: &Text,
-    flags: u64,
-    (size, at): (usize, usize),
-) {
-    let (theirs, bytes) = expected_write(t, run, text, flags, size, at);
+/// A run written by both.
+fn compare_write(t: &mut Tally, run: &[Call], words: &Encoded, flags: u64, size: usize, at: usize) {
+    let mut bytes = contents(size);
+    let theirs = rust_write(run, flags, &mut bytes, at);
     let input = (flags, size, at, run);
     t.refused[theirs.first().min(9) as usize] += 1;
+    t.later += theirs
+        .answers
+        .iter()
+        .skip_while(|a| **a == 0)
+        .count()
+        .saturating_sub(1) as u64;
     t.open += (theirs.open > 0) as u64;
+    let quoted_refused = is_quoted_refused(run, &theirs.answers);
+    let bytes = expected(t, bytes, theirs.number, quoted_refused);
     let mut ours = contents(size);
     let r = library::write(flags, &words.calls, &words.text, &mut ours, at);
     t.same(
@@ -186,24 +192,30 @@ fn compare_write(
         &input,
     );
     if let Some(margin) = asked_margin(t, &theirs) {
-        t.in_full += (2 + margin + 4 <= size - theirs.number) as u64;
+        let in_full = 2 + margin + 4 <= size - theirs.number;
+        t.in_full += in_full as u64;
+        t.left_high += (in_full && margin > 4 * theirs.builders) as u64;
         compare_written_margin(t, run, words, flags, at, (theirs.number, bytes, margin));
     }
 }
 
-/// The margin at the end of a run that was written and did not stop. Where there is no room for its
-/// spaces they are refused, so that no more than that is seen.
+/// The margin at the end of a run that was written. Where there is no room for its spaces they are
+/// refused, so that no more than that is seen.
 fn compare_written_margin(
     t: &mut Tally,
     run: &[Call],
     words: &Encoded,
     flags: u64,
     at: usize,
-    (cursor, mut bytes, margin): (usize, Vec<u8>, usize),
+    (mut cursor, mut bytes, margin): (usize, Vec<u8>, usize),
 ) {
     let size = bytes.len();
-    let spaces = vec![b' '; margin + 4];
-    let cursor = put(&[b"[\n", &spaces], &mut bytes, cursor, false);
+    for piece in [b"[\n".to_vec(), vec![b' '; margin + 4]] {
+        if piece.len() <= size - cursor {
+            bytes[cursor..cursor + piece.len()].copy_from_slice(&piece);
+            cursor += piece.len();
+        }
+    }
     let more = with_entry(words);
     let mut ours = contents(size);
     let r = library::write(flags, &more.calls, &more.text, &mut ours, at);
@@ -220,9 +232,9 @@ fn compare_prefixes(
     t: &mut Tally,
     run: &[Call],
     words: &Encoded,
-    text: &Text,
     flags: u64,
-    place: (usize, usize),
+    size: usize,
+    at: usize,
 ) {
     for k in 1..run.len() {
         let prefix = Encoded {
@@ -230,7 +242,7 @@ fn compare_prefixes(
             text: words.text.clone(),
         };
         compare_count(t, &run[..k], &prefix, flags);
-        compare_write(t, &run[..k], &prefix, text, flags, place);
+        compare_write(t, &run[..k], &prefix, flags, size, at);
     }
 }
 
@@ -238,7 +250,6 @@ fn compare_prefixes(
 fn compare_value(t: &mut Tally, v: &Value, flags: u64) {
     let run = [Call::Value(v.clone())];
     let words = Encoded::new(&run);
-    let text = Text::of(&run, flags);
     let total = compare_count(t, &run, &words, flags);
     if let Some(ours) = single_count(v, flags) {
         t.same(ours, (0, total), "counted alone", &(flags, v));
@@ -255,7 +266,7 @@ fn compare_value(t: &mut Tally, v: &Value, flags: u64) {
     }
     for at in [0, 3] {
         for size in sizes(total, at) {
-            compare_write(t, &run, &words, &text, flags, (size, at));
+            compare_write(t, &run, &words, flags, size, at);
             compare_single(t, v, flags, size, at);
         }
     }
@@ -268,7 +279,7 @@ fn compare_single(t: &mut Tally, v: &Value, flags: u64, size: usize, at: usize) 
     let q = rust_single(v, flags, &mut theirs, at);
     t.refused[q.0.min(9) as usize] += 1;
     let quoted_refused = q.0 == 1 && is_quoted_text(&Call::Value(v.clone()));
-    let theirs = without_strays(t, theirs, q.1, quoted_refused);
+    let theirs = expected(t, theirs, q.1, quoted_refused);
     t.same(
         (r, ours),
         (q, theirs),
@@ -440,9 +451,8 @@ fn strings(t: &mut Tally) {
                     compare_value(t, &v, 0);
                     let run = [Call::Value(v.clone())];
                     let words = Encoded::new(&run);
-                    let text = Text::of(&run, 0);
                     for size in 0..28 {
-                        compare_write(t, &run, &words, &text, 0, (size, 0));
+                        compare_write(t, &run, &words, 0, size, 0);
                         compare_single(t, &v, 0, size, 0);
                     }
                 }
@@ -544,12 +554,11 @@ fn pile(open: &[(u64, bool)], call: &Call) -> Vec<(u64, bool)> {
 fn small_runs(t: &mut Tally, run: &mut Vec<Call>, open: &[(u64, bool)], left: usize) {
     let words = Encoded::new(run);
     for flags in [0, 1] {
-        let text = Text::of(run, flags);
         let total = compare_count(t, run, &words, flags);
         for size in 0..=total + 1 {
-            compare_write(t, run, &words, &text, flags, (size, 0));
+            compare_write(t, run, &words, flags, size, 0);
         }
-        compare_write(t, run, &words, &text, flags, (total + 2, 2));
+        compare_write(t, run, &words, flags, total + 2, 2);
     }
     if left == 0 {
         return;
@@ -567,18 +576,18 @@ fn random_runs(t: &mut Tally, r: &mut Random, count: u64) {
         let run = random_run(r, 300);
         let flags = r.below(12);
         let words = Encoded::new(&run);
-        let text = Text::of(&run, flags);
         let total = compare_count(t, &run, &words, flags);
         for _ in 0..3 {
-            let place = random_place(r, total);
-            compare_write(t, &run, &words, &text, flags, place);
+            let (size, at) = random_place(r, total);
+            compare_write(t, &run, &words, flags, size, at);
         }
-        let place = random_place(r, total);
-        compare_prefixes(t, &run, &words, &text, flags, place);
+        let (size, at) = random_place(r, total);
+        compare_prefixes(t, &run, &words, flags, size, at);
     }
 }
 
-/// Runs with longer names, so that a name is refused where the pieces behind it would fit.
+/// Runs with longer names, so that a name is refused where smaller pieces still fit: the margin that
+/// its builder leaves high can be measured then.
 fn long_names(t: &mut Tally, r: &mut Random, count: u64) {
     for _ in 0..count {
         let mut run = random_run(r, 20);
@@ -591,11 +600,10 @@ fn long_names(t: &mut Tally, r: &mut Random, count: u64) {
         }
         let flags = r.below(12);
         let words = Encoded::new(&run);
-        let text = Text::of(&run, flags);
         let total = compare_count(t, &run, &words, flags);
-        let place = (r.below(total as u64 + 1) as usize, 0);
-        compare_write(t, &run, &words, &text, flags, place);
-        compare_prefixes(t, &run, &words, &text, flags, place);
+        let size = r.below(total as u64 + 1) as usize;
+        compare_write(t, &run, &words, flags, size, 0);
+        compare_prefixes(t, &run, &words, flags, size, 0);
     }
 }
 
@@ -605,10 +613,9 @@ fn hex(bytes: &[u8]) -> String {
 
 /// Prints runs with const_format's answers, their fields parted by commas: flags, cursor, size of the
 /// buffer, how many words, the words, the texts in hexadecimal, the first refusal and the total of
-/// counting, the first refusal and the cursor of writing, and the buffer in hexadecimal. A run that is
-/// written ends at the first piece that const_format refuses with 1: with the cursor before it, and the
-/// buffer from there on as it was. How often, and what is left out, goes to standard error.
-fn sample(t: &mut Tally, r: &mut Random, count: u64) {
+/// counting, the first refusal and the cursor of writing, and the buffer in hexadecimal, after a
+/// refused quoted text as it was from the cursor on.
+fn sample(r: &mut Random, count: u64) {
     let mut printed = 0;
     while printed < count {
         let mut run = random_run(r, 60);
@@ -621,8 +628,11 @@ fn sample(t: &mut Tally, r: &mut Random, count: u64) {
         if words.calls.len() > 200 || words.text.len() > 400 || size > 400 {
             continue;
         }
-        let text = Text::of(&run, flags);
-        let (written, b) = expected_write(t, &run, &text, flags, size, at);
+        let mut b = contents(size);
+        let written = rust_write(&run, flags, &mut b, at);
+        if is_quoted_refused(&run, &written.answers) {
+            b = without_strays(b, written.number);
+        }
         let numbers: Vec<String> = words.calls.iter().map(u64::to_string).collect();
         println!(
             "{flags},{at},{size},{},{},{},{},{total},{},{},{}",
@@ -636,15 +646,6 @@ fn sample(t: &mut Tally, r: &mut Random, count: u64) {
         );
         printed += 1;
     }
-    eprintln!("{}", stops(t));
-}
-
-/// What is left out of the comparison behind a refusal with 1.
-fn stops(t: &Tally) -> String {
-    format!(
-        "stops: {} writes at a piece refused with 1, in {} const_format's builder holds it; left out behind it: {} of {} calls, in {} writes",
-        t.stopped, t.held, t.calls_left, t.calls, t.runs_left
-    )
 }
 
 /// Everything that both can play, section by section.
@@ -676,13 +677,12 @@ fn compare_all(t: &mut Tally, r: &mut Random, count: u64) {
 fn print_tally(t: &Tally) {
     let n = t.refused;
     println!(
-        "writes: {} done, {} refused with 1, {} with 3; {} answers after a first 3 and before a 1; {} left entries open",
+        "writes: {} done, {} refused with 1, {} with 3; {} answers after a first refusal; {} left entries open",
         n[0], n[1], n[3], t.later, t.open
     );
-    println!("{}", stops(t));
     println!(
-        "margins: {} compared, {} measured in full",
-        t.margins, t.in_full
+        "margins: {} compared, {} measured in full, {} of these left high by a refused builder",
+        t.margins, t.in_full, t.left_high
     );
     println!(
         "truncations left out: {} to the cursor before a byte 80 to BF, ours alone: {} wrong",
@@ -705,19 +705,17 @@ fn main() {
     let [a, b] = numbers[..] else {
         panic!("a seed and a count")
     };
-    let mut t = Tally::default();
     if only_sample {
-        sample(&mut t, &mut Random(b * 2 + 1), a);
-        assert_eq!(t.differ, 0);
-        return;
+        return sample(&mut Random(b * 2 + 1), a);
     }
     let (seed, count) = (a, b);
     let mut r = Random(seed * 2 + 1);
+    let mut t = Tally::default();
     compare_all(&mut t, &mut r, count);
     let (tried, wrong) = alone::wrong_flags();
     println!("{tried} single calls with flags from 12 on, ours alone: {wrong} wrong");
-    let (stopped, bad) = alone::damaged(&mut r, count);
-    println!("{count} damaged runs, {stopped} of them stopped, ours alone: {bad} wrong");
+    let bad = alone::damaged(&mut r, count);
+    println!("{count} damaged runs, ours alone: {bad} wrong");
     print_tally(&t);
     let differ = t.differ + wrong + bad + t.left_out_wrong;
     println!("{} compared, {differ} differ", t.compared);

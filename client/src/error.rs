@@ -4,8 +4,7 @@ use std::fmt;
 /// Why a call was refused.
 #[derive(Clone, Copy, Debug, PartialEq, Eq)]
 pub enum Error {
-    /// 1: the cursor plus the length passes the end of the buffer, or did so at a call before; in
-    /// writing only.
+    /// 1: the cursor plus the length passes the end of the buffer.
     NotEnoughSpace,
     /// 2: ASCII text holds a byte above 127.
     NotAscii,
@@ -70,16 +69,14 @@ pub struct Unfinished {
     pub open: usize,
 }
 
-/// A run that was refused somewhere. The calls after a refused one are played all the same, but once a
-/// piece does not fit, nothing more is written.
+/// A run that was refused somewhere. The calls after a refused one are played all the same.
 #[derive(Clone, Copy, Debug, PartialEq, Eq)]
 pub struct Refused {
     /// The first refusal.
     pub first: Error,
-    /// The place in the run, from 0 on, of the call that answered it, and which call that is. In
-    /// writing a 1 is answered by the call whose piece did not fit; in counting a builder keeps a 6 of
-    /// its name and its fields until it is finished. None for a cursor past the buffer, which no call
-    /// is to blame for.
+    /// The place in the run, from 0 on, of the call that answered it, and which call that is. A
+    /// builder keeps the refusal of its name and its fields until it is finished. None for a cursor
+    /// past the buffer, which no call is to blame for.
     pub call: Option<(usize, Call)>,
     /// The total or the cursor at the end of the run.
     pub number: usize,

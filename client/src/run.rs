@@ -65,10 +65,8 @@ impl Run {
 
     /// Writes the text of the run from place `at` of the buffer on, and gives the place after it.
     ///
-    /// Refused or not, only bytes from `at` to the place where it ended can have changed. Where the
-    /// first refusal is a piece that does not fit, they are a beginning of the text, made of whole
-    /// pieces, and nothing more is written. Where it is another, the calls after the refused one are
-    /// written all the same. In neither case are they the text, and they are not to be sent as such.
+    /// Refused or not, only bytes from `at` to the place where it ended can have changed. Where it is
+    /// refused, these are not to be sent: the calls after a refused one are written all the same.
     pub fn write(&self, buf: &mut [u8], at: usize) -> Result<usize, RunError> {
         self.closed()?;
         let mut cursor = at;

@@ -28,88 +28,36 @@ fn the_call_is_named() {
     );
 }
 
-/// The call whose piece does not fit answers, also where it is a field or an opening, and so does every
-/// later one; the text ends before that piece.
 #[test]
-fn a_run_stops_at_the_first_piece_that_does_not_fit() {
+fn a_builder_answers_at_its_finish() {
     let mut run = Run::new(NEW);
     let mut s = run.debug_struct("Move");
     s.field("x").write_i32_debug(1200);
     s.finish();
     assert_eq!(run.count(), Ok(16));
-    // The closing does not fit; then not the number; then of the field not the `: `, the name, and
-    // the bracket; then not the name of the struct.
-    let stops = [
-        (15, 3, Call::Finish, "Move { x: 1200"),
-        (14, 3, Call::Finish, "Move { x: 1200"),
-        (13, 2, Call::SignedDebug, "Move { x: "),
-        (10, 2, Call::SignedDebug, "Move { x: "),
-        (9, 1, Call::Field, "Move { x"),
-        (8, 1, Call::Field, "Move { x"),
-        (7, 1, Call::Field, "Move { "),
-        (6, 1, Call::Field, "Move"),
-        (4, 1, Call::Field, "Move"),
-        (3, 0, Call::OpenStruct, ""),
-        (0, 0, Call::OpenStruct, ""),
-    ];
-    for (size, place, call, text) in stops {
-        let mut buf = vec![b'.'; size];
-        assert_eq!(
-            run.write(&mut buf, 0),
-            refused(Error::NotEnoughSpace, Some((place, call)), text.len())
-        );
-        assert_eq!(buf, format!("{text:.<size$}").as_bytes());
-        let mut answers = vec![Ok(()); place];
-        answers.resize(4, Err(Error::NotEnoughSpace));
-        assert_eq!(run.write_each(&mut buf, 0).unwrap().answers, answers);
-    }
-}
-
-/// What once went out as `Px7`: the number would fit behind the name.
-#[test]
-fn a_number_without_its_field_is_not_written() {
-    let mut run = Run::new(NEW);
-    let mut s = run.debug_struct("P");
-    s.field("x").write_u8_debug(7);
-    s.finish();
-    let mut buf = *b"...";
+    // The closing brackets do not fit; then not the number; then the field, which the builder keeps.
+    let finish = Some((3, Call::Finish));
     assert_eq!(
-        run.write(&mut buf, 0),
-        refused(Error::NotEnoughSpace, Some((1, Call::Field)), 1)
+        run.write(&mut [0; 15], 0),
+        refused(Error::NotEnoughSpace, finish, 14)
     );
-    assert_eq!(&buf, b"P..");
-}
-
-/// Behind the stop a call that has nothing to write answers 1 too, entries open and close as usual,
-/// and the other refusals are tested before.
-#[test]
-fn every_call_behind_the_stop_is_answered() {
-    let mut run = Run::new(NEW);
-    run.write_str("too long");
-    run.write_str("");
-    run.write_ascii(b"\x80");
-    run.write_str_range("é", 1..2);
-    run.debug_list().finish();
-    {
-        let mut sub = run.make_formatter(NEW.set_alternate(true));
-        let mut set = sub.debug_set();
-        set.entry().write_u8_debug(1);
-        set.finish();
-    }
-    let space = Err(Error::NotEnoughSpace);
-    let mut answers = vec![space; 12];
-    answers[2] = Err(Error::NotAscii);
-    answers[3] = Err(Error::NotOnCharBoundary);
-    let mut buf = *b"......";
     assert_eq!(
-        run.write_each(&mut buf, 1),
-        Ok(Each {
-            first: space,
-            number: 1,
-            answers
-        })
+        run.write(&mut [0; 13], 0),
+        refused(Error::NotEnoughSpace, Some((2, Call::SignedDebug)), 12)
     );
-    assert_eq!(&buf, b"......");
+    assert_eq!(
+        run.write(&mut [0; 8], 0),
+        refused(Error::NotEnoughSpace, Some((2, Call::SignedDebug)), 8)
+    );
+    assert_eq!(
+        run.write_each(&mut [0; 8], 0).unwrap().answers,
+        [
+            Ok(()),
+            Ok(()),
+            Err(Error::NotEnoughSpace),
+            Err(Error::NotEnoughSpace)
+        ]
+    );
 }
 
 #[test]
@@ -176,17 +124,17 @@ fn every_answer_is_given() {
 }
 
 /// The bytes before the start are kept, and those from the end on: a quoted text with an escape that
-/// does not fit leaves none of its own, and nothing of a later call is found there.
+/// does not fit leaves none of its own. Pieces of later calls are found between.
 #[test]
 fn what_a_refusal_leaves_in_the_buffer() {
     let mut run = Run::new(NEW);
+    run.write_str("too long");
     run.write_str("ok");
     run.write_str_debug("a\n");
-    run.write_str("no");
     let mut buf = *b"........";
     assert_eq!(
         run.write(&mut buf, 2),
-        refused(Error::NotEnoughSpace, Some((1, Call::StrDebug)), 4)
+        refused(Error::NotEnoughSpace, Some((0, Call::Str)), 4)
     );
     assert_eq!(&buf, b"..ok....");
 }
@@ -203,8 +151,7 @@ fn an_answer_without_a_name_keeps_its_number() {
     assert_eq!(Error::Other(77).to_string(), "77 (Other(77))");
 }
 
-/// `write` plays a refused run a second time for the place; `write_each` plays it once. Whatever the
-/// size, what they leave is a beginning of the same text.
+/// `write` plays a refused run a second time for the place; `write_each` plays it once.
 #[test]
 fn a_run_that_is_played_again_leaves_the_same() {
     for alternate in [false, true] {
@@ -222,8 +169,6 @@ fn a_run_that_is_played_again_leaves_the_same() {
         run.write_ascii(b"\x80");
         run.write_str("!");
         let whole = 3 + run.count_each().unwrap().number;
-        let mut text = vec![b'.'; whole];
-        let end = run.write_each(&mut text, 3).unwrap().number;
         for size in 3..=whole {
             let (mut once, mut twice) = (vec![b'.'; size], vec![b'.'; size]);
             let each = run.write_each(&mut once, 3).unwrap();
@@ -235,8 +180,7 @@ fn a_run_that_is_played_again_leaves_the_same() {
             assert_eq!(refused.number, each.number);
             assert_eq!(refused.call.map(|call| call.0), place);
             assert_eq!(once, twice);
-            assert!(each.number <= end);
-            assert_eq!(once[..each.number], text[..each.number]);
+            assert_eq!(&once[..3], b"...");
             assert!(once[each.number..].iter().all(|byte| *byte == b'.'));
         }
     }

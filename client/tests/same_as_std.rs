@@ -59,9 +59,6 @@ fn records_are_written_as_by_std() {
             panic!("a buffer that is one byte short was not refused");
         };
         assert_eq!(refused.first, Error::NotEnoughSpace);
-        let text = &short[..refused.number];
-        assert_eq!(text, &expected.as_bytes()[..refused.number]);
-        assert!(short[refused.number..].iter().all(|byte| *byte == b'.'));
     }
 }
 

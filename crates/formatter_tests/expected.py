@@ -1,5 +1,5 @@
 """What the cases of formatter_tests print, over the model of runs of run_tests/expected.py, which is
-written from document 01 and tickets 5 and 8 of document 02:
+written from document 01 and ticket 5 of document 02:
 
     python3 crates/formatter_tests/expected.py < crates/formatter_tests/stdin > crates/formatter_tests/stdout
 

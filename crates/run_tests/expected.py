@@ -1,5 +1,5 @@
-"""What the cases of run_tests print, by a model of runs that is written from document 01 and tickets 5
-and 8 of document 02:
+"""What the cases of run_tests print, by a model of runs that is written from document 01 and ticket 5
+of document 02:
 
     python3 crates/run_tests/expected.py < crates/run_tests/stdin > crates/run_tests/stdout
 
@@ -28,7 +28,7 @@ class Refused(Exception):
 
 
 class Counter:
-    """A total. It never stops: every piece is tried."""
+    """A total."""
 
     def __init__(self, number=0):
         self.number = number
@@ -39,9 +39,6 @@ class Counter:
     def check_boundaries(self, text, places):
         pass
 
-    def check_stop(self):
-        pass
-
     def put(self, text, times=1):
         if self.number + len(text) * times > TOP:
             raise Refused(6)
@@ -49,12 +46,11 @@ class Counter:
 
 
 class Buffer:
-    """Dots, a cursor, and whether a piece has not fitted: from then on nothing is written (ticket 8)."""
+    """Dots, and a cursor."""
 
     def __init__(self, size, cursor):
         self.bytes = bytearray(b"." * size)
         self.number = cursor
-        self.is_stopped = False
 
     def check_cursor(self):
         if self.number > len(self.bytes):
@@ -64,17 +60,12 @@ class Buffer:
         if any(0x80 <= byte <= 0xBF for place in places for byte in text[place:place + 1]):
             raise Refused(3)
 
-    def check_stop(self):
-        if self.is_stopped:
-            raise Refused(1)
-
     def put(self, text, times=1):
         end = self.number + len(text) * times
         if end > len(self.bytes):
-            self.is_stopped = True
-        if not self.is_stopped:
-            self.bytes[self.number:end] = text * times
-            self.number = end
+            raise Refused(1)
+        self.bytes[self.number:end] = text * times
+        self.number = end
 
 
 def escaped(byte):
@@ -108,7 +99,6 @@ class Formatter:
             raise Refused(8)
 
     def hold(self, entry, text, times=1):
-        """A piece of an opening, a field or an entry. Only a 6 is held: a buffer raises nothing here."""
         try:
             self.out.put(text, times)
         except Refused as refused:
@@ -207,8 +197,6 @@ class Formatter:
             self.integer(name == "signed", a, 8 << b, debug)
 
     def call(self, name, text, a, b):
-        """A call. Whatever it met from 2 to 9 was raised before a piece or an entry was touched; 1 comes
-        last, from the call whose piece did not fit and from every later one (ticket 8)."""
         self.out.check_cursor()
         numbers = {"sub_formatter": a < 12, "char": a < 2**32, "char_debug": a < 2**32,
                    "repeated": a < 256, "no_call": False}
@@ -232,7 +220,6 @@ class Formatter:
             self.end_formatter()
         else:
             self.value(name, text, a, b)
-        self.out.check_stop()
 
 
 def answers_of(formatter, calls):

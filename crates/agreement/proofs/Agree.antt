@@ -1,59 +1,105 @@
--- The agreement: counting and writing are what the ledger says of them, for every list of calls.
-use mathlib.Core.Path.{◌≡◌, refl, ◌∙◌}
+-- Demand 3: the counting run, the writing run and the ledger agree.
+use mathlib.Core.Path.{◌≡◌, refl, ap, ◌∙◌}
 use mathlib.Core.List.{List, [], ◌∷◌, flatten}
-use Prim.Native.Nat.{ℕ, zero, suc, ◌-◌, ◌≤◌}
-use native.Mathlib.Nat.{zero-add, le_refl, le_trans}
+use Prim.Native.Nat.{ℕ, zero, suc, ◌+◌, ◌≤◌}
+use native.Mathlib.Nat.{add-zero, zero-add}
+use native.Mathlib.Decide.{dec_le}
 use native.Mathlib.Omega.{arith}
 use lib.ListN.{length}
+use Rattle.str_writer.proofs.Splice.{splice-nil}
 use Rattle.calls.specs.declared.Settings.{Settings}
 use Rattle.calls.specs.Call.{Call}
-use Rattle.calls.specs.Ledger.{Ledger, text_in, meets, change, changed, unless_met, feed, ledger, fresh}
-use Rattle.calls.specs.Model.{counting, writing, fault_of, run, most}
-use Rattle.agreement.specs.Agreement.{met_by, judge, send, sends, answers_in, packet, Agreement}
-use Rattle.agreement.proofs.Output.{length_both, after, inside, after-nil, after-append, packet-told}
-use Rattle.agreement.proofs.Moves.{hold-zero, fault_law, state_of, step_law}
+use Rattle.calls.specs.Ledger.{Ledger, feed, ledger, fresh, Permitted}
+use Rattle.calls.specs.Model.{Mode, number_in, counting, writing, State, Run, cut_in, run, start, most}
+use Rattle.agreement.specs.Untouched.{OnlyBetween}
+use Rattle.agreement.specs.Agreement.{AllDone, first_refusal, AllWhole, Proper, defined_text, written, Counted, Written, Demand3}
+use Rattle.agreement.proofs.Output.{cap_of, code_of, Fits, Passes}
+use Rattle.agreement.proofs.Moves.{AllUncut, state_of, faults, run_law}
+use Rattle.agreement.proofs.Rest.{rest_untouched, rest-written}
+use Rattle.agreement.proofs.Held.{holds_open, Tracks, clear, stuck, Ends, met, refused, ended, ends}
 
--- the ledger's text is empty at first, and only grows
-pub no_text : (S : Settings) → length (text_in (fresh S)) ≡ 0
+-- the first refusal is 0 where every answer is, and only there
+pub done_first : (r : List ℕ) → AllDone r → first_refusal r ≡ 0
+done_first [] d = refl
+done_first (x ∷ r) d = rw d.0 (done_first r d.1)
+
+pub first_done : (r : List ℕ) → first_refusal r ≡ 0 → AllDone r
+first_done [] q = tt
+first_done (zero ∷ r) q = (refl, first_done r q)
+first_done (suc a ∷ r) q = absurd (omega arith)
+
+permitted-done : (L : Ledger) (cs : List Call) → Permitted L cs → AllDone (faults L cs)
+permitted-done L [] p = tt
+permitted-done L (c ∷ cs) p = (p.0, permitted-done (feed L c) cs p.1)
+
+no_cut : (m : Mode) → cut_in m 0 ≡ 0
+no_cut (counting n) = refl
+no_cut (writing p) = refl
+
+whole_uncut : (m : Mode) (cs : List Call) → AllWhole cs → AllUncut m cs
+whole_uncut m [] w = tt
+whole_uncut m (c ∷ cs) w = (rw w.0 (no_cut m), whole_uncut m cs w.1)
+
+-- the formatter that a run starts with is that of the fresh ledger
+pub start_law : (m : Mode) (b : List ℕ) (S : Settings) → start m b S ≡ state_of m b (fresh S)
 unfolding flatten
-no_text S = refl
+start_law (counting n) b S = rw add-zero
+start_law (writing p) b S = rw (splice-nil b p, add-zero)
 
-feed-grows : (L : Ledger) (c : Call) → length (text_in L) ≤ length (text_in (feed L c))
-feed-grows L c = go (meets L c)
-  where
-    go : (a : ℕ) → length (text_in L) ≤ length (text_in (unless_met a (changed L (change L c)) L))
-    go zero = rw length_both (omega arith)
-    go (suc a) = le_refl _
-
-pub text-grows : (L : Ledger) (cs : List Call) → length (text_in L) ≤ length (text_in (ledger L cs))
-text-grows L [] = le_refl _
-text-grows L (c ∷ cs) = le_trans (feed-grows L c) (text-grows (feed L c) cs)
-
--- a counting run
-pub count-fault : (n : ℕ) (b : List ℕ) (L : Ledger) (c : Call) → fault_of (state_of (counting n) b L) c ≡ meets L c
-count-fault n b L c = fault_law (after (counting n) b L.pieces) L c refl ∙ hold-zero (meets L c)
-
-count-run : (b : List ℕ) (L : Ledger) (cs : List Call) → length (text_in (ledger L cs)) ≤ most
-    → run (state_of (counting 0) b L) cs ≡ record { answers = met_by L cs; state = state_of (counting 0) b (ledger L cs) }
-count-run b L [] h = refl
-count-run b L (c ∷ cs) h =
-    rw (step_law (counting 0) b L c (meets L c) (count-fault 0 b L c) (omega (arith, text-grows (feed L c) cs)), hold-zero (meets L c), count-run b (feed L c) cs h)
-
--- a writing run
-write-fault : (b : List ℕ) (p : ℕ) (L : Ledger) (c : Call) → p ≤ length b → fault_of (state_of (writing p) b L) c ≡ judge L c
-write-fault b p L c h =
-    let d = packet b p L.pieces in
-    fault_law d L c (inside d.mode d.bytes [] (after-append (writing p) b L.pieces [] h).0) ∙ rw (packet-told b p L.pieces).1
-
-write-run : (b : List ℕ) (p : ℕ) (L : Ledger) (cs : List Call) → p ≤ length b
-    → run (state_of (writing p) b L) cs ≡ record { answers = answers_in (length b - p) L cs; state = state_of (writing p) b (sends L cs) }
-write-run b p L [] h = refl
-write-run b p L (c ∷ cs) h = rw (step_law (writing p) b L c (judge L c) (write-fault b p L c h) h, (packet-told b p (send L c).pieces).0, write-run b p (send L c) cs h)
-
-pub agreement : Agreement
+pub start_tracks : (m : Mode) (b : List ℕ) (S : Settings) → number_in m ≤ cap_of m b → Tracks m b (fresh S) (start m b S)
 unfolding flatten
-agreement S cs =
-    record {
-      counts = λ h b. count-run b (fresh S) cs h ∙ rw zero-add;
-      writes = λ b p h. rw (← after-nil (writing p) b) (write-run b p (fresh S) cs h);
-    }
+start_tracks m b S h = rw (start_law m b S) (clear (omega arith))
+
+module _ (S : Settings) (cs : List Call) (P : Proper S cs) (m : Mode) (b : List ℕ) where
+  fits-run : Fits m b (ledger (fresh S) cs).pieces → run (start m b S) cs ≡ record { answers = faults (fresh S) cs; state = state_of m b (ledger (fresh S) cs) }
+  fits-run h = rw (start_law m b S) (run_law m b (fresh S) cs h (whole_uncut m cs P.whole))
+
+  fits-done : Fits m b (ledger (fresh S) cs).pieces → AllDone (run (start m b S) cs).answers
+  fits-done h = rw (fits-run h) (permitted-done (fresh S) cs P.permitted)
+
+  fits-closed : Fits m b (ledger (fresh S) cs).pieces → (run (start m b S) cs).state.stack ≡ []
+  fits-closed h = rw (fits-run h, P.closed)
+
+  first-refused : number_in m ≤ cap_of m b → Passes m b (ledger (fresh S) cs).pieces → first_refusal (run (start m b S) cs).answers ≡ code_of m
+  first-refused h k = go (ends m b cs (fresh S) (start m b S) (start_tracks m b S h) (whole_uncut m cs P.whole))
+    where
+      open_or_over : (L : Ledger) (F : State) → Tracks m b L F → L.pile ≡ [] → Passes m b L.pieces → ⊥
+      open_or_over L F (clear i) z j = omega arith
+      open_or_over L F (stuck d f s i j) z k = omega (arith, (holds_open m b j).0, ap length z)
+
+      go : Ends m b (fresh S) cs (run (start m b S) cs) → first_refusal (run (start m b S) cs).answers ≡ code_of m
+      go (met p r) = absurd (p P.permitted)
+      go (refused r) = r
+      go (ended p g) = absurd (open_or_over (ledger (fresh S) cs) _ g P.closed k)
+
+module _ (S : Settings) (cs : List Call) (P : Proper S cs) where
+  counted_agrees : length (defined_text S cs) ≤ most → (b : List ℕ) → Counted S cs b
+  counted_agrees h b =
+      let k : Fits (counting 0) b (ledger (fresh S) cs).pieces = omega arith in
+      record {
+        done = fits-done S cs P (counting 0) b k;
+        output = ap (λ (r : Run). r.state.output) (fits-run S cs P (counting 0) b k) ∙ rw zero-add;
+        closed = fits-closed S cs P (counting 0) b k;
+      }
+
+  written_agrees : (b : List ℕ) (p : ℕ) → p ≤ length b → Written S cs b p
+  written_agrees b p h =
+      record {
+        exactly = (λ d. done-fits d (dec_le (p + length (defined_text S cs)) (length b)), fits-done S cs P (writing p) b);
+        cursor = λ k. ap (λ (r : Run). r.state.output.mode) (fits-run S cs P (writing p) b k);
+        bytes = λ k. ap (λ (r : Run). r.state.output.bytes) (fits-run S cs P (writing p) b k);
+        closed = fits-closed S cs P (writing p) b;
+        refused = first-refused S cs P (writing p) b h;
+        before = rest.before;
+        size = rest.size;
+      }
+    where
+      done-fits : AllDone (written S cs b p).answers → Dec (p + length (defined_text S cs) ≤ length b) → p + length (defined_text S cs) ≤ length b
+      done-fits d (yes k) = k
+      done-fits d (no k) = absurd (omega (arith, first-refused S cs P (writing p) b h (omega arith), done_first (written S cs b p).answers d))
+
+      rest : OnlyBetween b p (written S cs b p).state.output.bytes (number_in (written S cs b p).state.output.mode)
+      rest = rest-written p b (written S cs b p).state.output.mode (written S cs b p).state.output.bytes (rest_untouched (start (writing p) b S) cs)
+
+pub agree : Demand3
+agree S cs P h = (counted_agrees S cs P h, written_agrees S cs P)

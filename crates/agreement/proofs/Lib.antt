@@ -2,9 +2,7 @@ pub mod Output
 pub mod Keeping
 pub mod Rest
 pub mod Moves
-pub mod Agree
-pub mod Demand3
 pub mod Held
+pub mod Agree
 pub mod Counting
-pub mod Stopping
 pub mod Known

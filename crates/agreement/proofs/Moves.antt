@@ -1,125 +1,143 @@
--- The formatter is the ledger's, call by call, in each mode.
-use mathlib.Core.Bool.{Bool, true, false}
-use mathlib.Core.Path.{◌≡◌, refl, ap}
-use mathlib.Core.List.{List, [], ◌∷◌}
+-- The formatter is a function of the ledger, call by call, as long as nothing is refused for want of room.
+use mathlib.Core.Path.{◌≡◌, refl, sym, ap, ◌∙◌}
+use mathlib.Core.List.{List, [], ◌∷◌, ◌++◌, append_assoc, append-nil}
 use Prim.Native.Nat.{ℕ, zero, suc, ◌+◌, ◌-◌, ◌*◌}
 use native.Mathlib.Omega.{arith}
 use lib.ListN.{length}
 use Rattle.formatting.specs.declared.flags.FormattingFlags.{FormattingFlags}
-use Rattle.calls.specs.Call.{Place, Call, opens, place, value, sub, endsub, finish, cut_number, hold}
-use Rattle.calls.specs.Ledger.{Open, building, within, Ledger, builders, margin_of, top, meets, change, changed, unless_met}
-use Rattle.calls.specs.Model.{Mode, counting, writing, stopped, Output, PieceOutcome, stop_in, put_none, held_in, with_held, State, Out, inner, beyond, cut_in, fault_of, move, emit, holds, holds_in, settled, step}
-use Rattle.agreement.specs.Agreement.{entries_of, formatter_of}
-use Rattle.agreement.proofs.Output.{over, after, Fits, after-append, tries_law, stops_law, put_law}
+use Rattle.str_writer.specs.Value.{text_of}
+use Rattle.calls.specs.Call.{Place, Call, opens, place, value, sub, endsub, finish, open_pieces, place_pieces, close_pieces, cut_number, hold}
+use Rattle.calls.specs.Ledger.{Open, building, within, Ledger, builders, margin_of, top, has_printed, meets, change, changed, unless_met, feed, ledger}
+use Rattle.calls.specs.Ledger.{Builder as Having}
+use Rattle.calls.specs.Model.{Mode, Builder, Entry, builder, outer, State, Out, inner, cut_in, fault_of, move, emit, holds, settled, guard, step, run}
+use Rattle.agreement.proofs.Output.{after, Fits, fits-left, put_law, tries_law, stops_law, Kept, KeptIn, same-cut, inside, kept_after, put_kept}
+use Rattle.agreement.proofs.Keeping.{run_keep}
 
--- the first of two that is met
-pub hold-zero : (a : ℕ) → hold a 0 ≡ a
-hold-zero zero = refl
-hold-zero (suc a) = refl
+-- every call keeps what every piece keeps
+pub run_kept : (m : Mode) (b : List ℕ) (F : State) (cs : List Call) → KeptIn m b F.output → KeptIn m b (run F cs).state.output
+run_kept m b = run_keep (Kept m b) (put_kept m b)
 
-pub hold-left : (a b : ℕ) → hold a b ≡ 0 → a ≡ 0
-hold-left zero b e = refl
-hold-left (suc a) b e = absurd (omega arith)
+-- the builder that one of the ledger is in the formatter, with what it holds
+abbrev pub holding : ℕ → Having → Builder
+holding h B = record { kind = B.kind; has_field = B.has_field; held = h }
 
-pub hold_right : (a b : ℕ) → hold a b ≡ 0 → b ≡ 0
-hold_right zero b e = e
-hold_right (suc a) b e = absurd (omega arith)
+-- the entries that a pile has: the margins that its entries below give, nothing held
+abbrev pub entries : List Open → List Entry
+entries [] = []
+entries (building B ∷ p) = builder (holding 0 B) ∷ entries p
+entries (within f ∷ p) = outer (record { flags = f; margin = margin_of p }) ∷ entries p
 
--- the entries of a pile: what is innermost, how many, nothing held
-inner-top : (p : List Open) → inner (entries_of p) ≡ top p
+inner-top : (p : List Open) → inner (entries p) ≡ top p
 inner-top [] = refl
 inner-top (building B ∷ p) = refl
 inner-top (within f ∷ p) = refl
 
-depth : (p : List Open) → length (entries_of p) ≡ length p
+pub depth : (p : List Open) → length (entries p) ≡ length p
 depth [] = refl
 depth (building B ∷ p) = ap suc (depth p)
 depth (within f ∷ p) = ap suc (depth p)
 
-none-held : (p : List Open) → with_held 0 (entries_of p) ≡ entries_of p
-none-held [] = refl
-none-held (building B ∷ p) = refl
-none-held (within f ∷ p) = refl
+pub raised : (p : List Open) → margin_of p + 4 ≡ 4 * suc (builders p)
+raised p = omega arith
 
-zero_held : (m : Mode) → held_in m 0 ≡ 0
-zero_held (counting n) = refl
-zero_held (writing p) = refl
-zero_held (stopped p) = refl
+pub lower : (B : Having) (p : List Open) → margin_of (building B ∷ p) - 4 ≡ margin_of p
+lower B p = omega arith
 
--- what a call answers that meets nothing, and the formatter then
-abbrev pub does : State → Call → Out
-does F c = settled (holds_in F.output.mode c) (move F c) (emit F c)
-
--- the pieces us have gone out, and the entries are those of a pile: nothing is held, and the answer is what the mode says
-abbrev told : Mode → List ℕ → List (List ℕ) → FormattingFlags → List Open → Out
-told m b us f p = record { answer = stop_in (after m b us).mode; state = record { output = after m b us; flags = f; margin = margin_of p; stack = entries_of p } }
-
-settled_law : (m : Mode) (b : List ℕ) (c : Call) (us : List (List ℕ)) (f : FormattingFlags) (p : List Open) (r : PieceOutcome) → r ≡ put_none (after m b us)
-    → settled (holds_in m c) (record { flags = f; margin = margin_of p; stack = entries_of p }) r ≡ told m b us f p
-settled_law (counting n) b c us f p r e = rw e (go (holds c))
+-- the ledger's pieces only grow
+feed-grows : (L : Ledger) (c : Call) → (us : List (List ℕ)) × ((feed L c).pieces ≡ L.pieces ++ us)
+feed-grows L c = go (meets L c)
   where
-    go : (h : Bool) → settled h (record { flags = f; margin = margin_of p; stack = entries_of p }) (put_none (after (counting n) b us)) ≡ told (counting n) b us f p
-    go true = rw (none-held p)
-    go false = refl
-settled_law (writing n) b c us f p r e = rw e
-settled_law (stopped n) b c us f p r e = rw e
+    go : (a : ℕ) → (us : List (List ℕ)) × ((unless_met a (changed L (change L c)) L).pieces ≡ L.pieces ++ us)
+    go zero = (_, refl)
+    go (suc a) = ([], sym (append-nil L.pieces))
 
--- a formatter as the ledger has it judges as the ledger does
-pub fault_law : (d : Output) (L : Ledger) (c : Call) → beyond d.mode d.bytes ≡ 0 → fault_of (formatter_of d L) c ≡ hold (meets L c) (cut_in d.mode (cut_number c))
-fault_law d L c h = rw (h, inner-top, depth)
+grows : (L : Ledger) (cs : List Call) → (us : List (List ℕ)) × ((ledger L cs).pieces ≡ L.pieces ++ us)
+grows L [] = ([], sym (append-nil L.pieces))
+grows L (c ∷ cs) =
+    let g = feed-grows L c in
+    let r = grows (feed L c) cs in
+    (g.0 ++ r.0, r.1 ∙ ap (λ (t : List (List ℕ)). t ++ r.0) g.1 ∙ append_assoc L.pieces g.0 r.0)
 
--- and moves and emits as the ledger changes
+-- what each call meets
+abbrev pub faults : Ledger → List Call → List ℕ
+faults L [] = []
+faults L (c ∷ cs) = meets L c ∷ faults (feed L c) cs
+
+-- calls that cut no string, as far as the mode tests it
+abbrev pub Uncut : Mode → Call → Type 0
+Uncut m c = cut_in m (cut_number c) ≡ 0
+
+abbrev pub AllUncut : Mode → List Call → Type 0
+AllUncut m [] = Unit {0}
+AllUncut m (c ∷ cs) = Uncut m c × AllUncut m cs
+
+-- what a call that meets nothing does
+abbrev pub does : State → Call → Out
+does F c = settled (holds c) (move F c) (emit F c)
+
+hold-zero : (a : ℕ) → hold a 0 ≡ a
+hold-zero zero = refl
+hold-zero (suc a) = refl
+
 module _ (m : Mode) (b : List ℕ) where
-  abbrev Follows : Ledger → Call → Type 0
-  Follows L c =
-      let C = change L c in
-      Fits m b C.pieces → does (formatter_of (over m b) L) c ≡ told m b C.pieces C.flags C.pile
+  -- a formatter whose entries and margin are as the pile has them judges as the ledger does
+  pub fault_law : (F : State) (L : Ledger) (c : Call) → KeptIn m b F.output → F.margin ≡ margin_of L.pile → inner F.stack ≡ top L.pile → length F.stack ≡ length L.pile
+      → Uncut m c → fault_of F c ≡ meets L c
+  fault_law F L c k g i l w =
+      rw (inside F.output.mode F.output.bytes k.1, same-cut m b F.output.mode F.output.bytes (cut_number c) k, w, g, i, l) (hold-zero (meets L c))
 
-  still : (c : Call) (f : FormattingFlags) (p : List Open) → Fits m b []
-      → settled (holds_in m c) (record { flags = f; margin = margin_of p; stack = entries_of p }) (put_none (over m b)) ≡ told m b [] f p
-  still c f p h = settled_law m b c [] f p _ (tries_law m b [] h)
+  fits-before : (L : Ledger) (cs : List Call) → Fits m b (ledger L cs).pieces → Fits m b L.pieces
+  fits-before L cs h = let g = grows L cs in fits-left m b L.pieces g.0 (rw g.1 at h)
+
+  -- the formatter that a ledger has, started in mode m over the bytes b
+  abbrev pub state_of : Ledger → State
+  state_of L = record { output = after m b L.pieces; flags = L.flags; margin = margin_of L.pile; stack = entries L.pile }
+
+  abbrev Follows : Ledger → Call → Type 0
+  Follows L c = does (state_of L) c ≡ record { answer = 0; state = state_of (changed L (change L c)) }
 
   module _ (f : FormattingFlags) (ts : List (List ℕ)) where
     abbrev lg : List Open → Ledger
     lg p = record { flags = f; pile = p; pieces = ts }
 
-    does-place : (p : List Open) (x : Place) → Follows (lg p) (place x)
-    does-place [] x h = still (place x) f [] h
-    does-place (building B ∷ p) x h = settled_law m b (place x) _ f (building (record { kind = B.kind; has_field = true }) ∷ p) _ (tries_law m b _ h)
-    does-place (within g ∷ p) x h = still (place x) f (within g ∷ p) h
+    does-place : (p : List Open) (x : Place) → meets (lg p) (place x) ≡ 0 → Fits m b (changed (lg p) (change (lg p) (place x))).pieces → Follows (lg p) (place x)
+    does-place [] x e h = absurd (omega arith)
+    does-place (building B ∷ p) x e h = rw (tries_law b m ts (place_pieces B.kind (has_printed B) f.is_alternate (margin_of (building B ∷ p)) x) h)
+    does-place (within g ∷ p) x e h = absurd (omega arith)
 
-    does-endsub : (p : List Open) → Follows (lg p) endsub
-    does-endsub [] h = still endsub f [] h
-    does-endsub (building B ∷ p) h = still endsub f (building B ∷ p) h
-    does-endsub (within g ∷ p) h = still endsub g p h
+    does-endsub : (p : List Open) → meets (lg p) endsub ≡ 0 → Follows (lg p) endsub
+    does-endsub [] e = absurd (omega arith)
+    does-endsub (building B ∷ p) e = absurd (omega arith)
+    does-endsub (within g ∷ p) e = rw append-nil
 
-    does-finish : (p : List Open) → Follows (lg p) finish
-    does-finish [] h = still finish f [] h
-    does-finish (building B ∷ p) h =
-        let q : margin_of (building B ∷ p) - 4 ≡ margin_of p = omega arith in
-        rw (zero_held m, q) (settled_law m b finish _ f p _ (stops_law m b _ h))
-    does-finish (within g ∷ p) h = still finish f (within g ∷ p) h
+    does-finish : (p : List Open) → meets (lg p) finish ≡ 0 → Fits m b (changed (lg p) (change (lg p) finish)).pieces → Follows (lg p) finish
+    does-finish [] e h = absurd (omega arith)
+    does-finish (building B ∷ p) e h = rw (lower B p, stops_law b m ts (close_pieces B.kind (has_printed B) f.is_alternate (margin_of p)) h)
+    does-finish (within g ∷ p) e h = absurd (omega arith)
 
-  does_law : (L : Ledger) (c : Call) → Follows L c
-  does_law L (opens k name) h =
-      let q : margin_of L.pile + 4 ≡ 4 * suc (builders L.pile) = omega arith in
-      rw q (settled_law m b (opens k name) _ L.flags (building (record { kind = k; has_field = false }) ∷ L.pile) _ (tries_law m b _ h))
-  does_law L (place x) h = does-place L.flags L.pieces L.pile x h
-  does_law L (value v) h = settled_law m b (value v) _ L.flags L.pile _ (put_law m b _ h)
-  does_law L (sub f) h = still (sub f) f (within L.flags ∷ L.pile) h
-  does_law L endsub h = does-endsub L.flags L.pieces L.pile h
-  does_law L finish h = does-finish L.flags L.pieces L.pile h
+  pub does_law : (L : Ledger) (c : Call) → meets L c ≡ 0 → Fits m b (changed L (change L c)).pieces → Follows L c
+  does_law L (opens k name) e h = rw (tries_law b m L.pieces (open_pieces k name) h, raised L.pile)
+  does_law L (place x) e h = does-place L.flags L.pieces L.pile x e h
+  does_law L (value v) e h = rw (put_law b m L.pieces (text_of L.flags v) h)
+  does_law L (sub f) e h = rw append-nil
+  does_law L endsub e h = does-endsub L.flags L.pieces L.pile e
+  does_law L finish e h = does-finish L.flags L.pieces L.pile e h
 
--- the formatter that a ledger is, started in mode m over the bytes b
-abbrev pub state_of : Mode → List ℕ → Ledger → State
-state_of m b L = formatter_of (after m b L.pieces) L
+  pub same-fault : (L : Ledger) (c : Call) → Fits m b L.pieces → Uncut m c → fault_of (state_of L) c ≡ meets L c
+  same-fault L c h w = fault_law (state_of L) L c (kept_after m b L.pieces h) refl (inner-top L.pile) (depth L.pile) w
 
--- a call that is judged a answers a, else what the mode says after its pieces, and the formatter stays that of the ledger
-pub step_law : (m : Mode) (b : List ℕ) (L : Ledger) (c : Call) (a : ℕ) → fault_of (state_of m b L) c ≡ a →
-    let M = unless_met a (changed L (change L c)) L in
-    Fits m b M.pieces → step (state_of m b L) c ≡ record { answer = hold a (stop_in (after m b M.pieces).mode); state = state_of m b M }
-step_law m b L c zero e h =
-    let d = after m b L.pieces in
-    let k = after-append m b L.pieces (change L c).pieces h in
-    rw (e, ← k.1) (does_law d.mode d.bytes L c k.0)
-step_law m b L c (suc a) e h = rw e
+  -- a call whose pieces fit answers what it meets, and the formatter stays that of the ledger
+  pub step_law : (L : Ledger) (c : Call) → Fits m b (feed L c).pieces → Uncut m c
+      → step (state_of L) c ≡ record { answer = meets L c; state = state_of (feed L c) }
+  step_law L c h w = rw (same-fault L c (fits-before L (c ∷ []) h) w) (go (meets L c) refl h)
+    where
+      go : (a : ℕ) → meets L c ≡ a → Fits m b (unless_met a (changed L (change L c)) L).pieces
+          → guard a (state_of L) (does (state_of L) c) ≡ record { answer = a; state = state_of (unless_met a (changed L (change L c)) L) }
+      go zero e i = does_law L c e i
+      go (suc a) e i = refl
+
+  -- a run whose text fits is what the ledger says of it
+  pub run_law : (L : Ledger) (cs : List Call) → Fits m b (ledger L cs).pieces → AllUncut m cs
+      → run (state_of L) cs ≡ record { answers = faults L cs; state = state_of (ledger L cs) }
+  run_law L [] h w = refl
+  run_law L (c ∷ cs) h w = rw (step_law L c (fits-before (feed L c) cs h) w.0, run_law (feed L c) cs h w.1)

@@ -1,170 +1,182 @@
--- What pieces do to the count and to the lent bytes: one law for counting, for writing and for a run that has stopped.
+-- What pieces do to the count and to the lent bytes: laws for both modes at once.
 use mathlib.Core.Path.{◌≡◌, refl, sym, ap, ◌∙◌}
-use mathlib.Core.List.{List, [], ◌∷◌, ◌++◌, append_assoc, flatten}
-use mathlib.Core.Bool.{Bool, true, false, cond}
-use Prim.Native.Nat.{ℕ, ◌+◌, ◌-◌, ◌≤◌, ◌<◌}
-use native.Mathlib.Nat.{add-zero, zero-add, add_assoc}
+use mathlib.Core.Logic.{◌⊎◌, inl, inr}
+use mathlib.Core.List.{List, [], ◌∷◌, ◌++◌, append_assoc, append-nil, flatten}
+use Prim.Native.Nat.{ℕ, zero, suc, ◌+◌, ◌≤◌, ◌<◌}
+use native.Mathlib.Nat.{add_assoc}
 use native.Mathlib.Decide.{dec_le}
 use native.Mathlib.Omega.{arith}
-use lib.Dec.{leb}
 use lib.ListN.{length, take, drop, length-append}
 use lib.Seq.{take-append-le, take-take, length-take-le, drop_at, drop-drop}
-use borrow.Author.Tests.{lt-ltb, le-ltb, le-leb, lt-leb}
+use borrow.Author.Tests.{lt-ltb, le-ltb}
+use Rattle.error.specs.declared.Answer.TheVariants.{NotEnoughSpace, CountTooLarge}
+use Rattle.error.specs.Answer.{number_of}
 use Rattle.str_writer.specs.Write.{splice, placed}
-use Rattle.str_writer.proofs.Splice.{splice-nil, splice-splice, length-splice}
+use Rattle.str_writer.proofs.Splice.{splice-splice, length-splice}
 use Rattle.calls.specs.Call.{hold}
-use Rattle.calls.specs.Model.{Mode, counting, writing, stopped, Output, PieceOutcome, to, most, put_in, stop_in, put_none, go_on, tries, stops, beyond, cut_in}
-use Rattle.agreement.specs.Agreement.{fitting, packet}
+use Rattle.calls.specs.Model.{Mode, number_in, counting, writing, Output, PieceOutcome, to, most, put_in, put, go_on, tries, stops, beyond, cut_in}
 use Rattle.agreement.specs.Untouched.{OnlyBetween, LeavesRest}
 
--- the length of pieces joined
-pub length_cons : (t : List ℕ) (ts : List (List ℕ)) → length (flatten (t ∷ ts)) ≡ length t + length (flatten ts)
+flatten-append : (ts us : List (List ℕ)) → flatten (ts ++ us) ≡ flatten ts ++ flatten us
 unfolding flatten
-length_cons t ts = rw length-append
+flatten-append [] us = refl
+flatten-append (t ∷ ts) us = rw (flatten-append ts us, append_assoc)
 
-pub length_both : (ts us : List (List ℕ)) → length (flatten (ts ++ us)) ≡ length (flatten ts) + length (flatten us)
+length_both : (ts us : List (List ℕ)) → length (flatten (ts ++ us)) ≡ length (flatten ts) + length (flatten us)
+length_both ts us = rw (flatten-append, length-append)
+
+flatten-snoc : (ts : List (List ℕ)) (t : List ℕ) → flatten (ts ++ t ∷ []) ≡ flatten ts ++ t
 unfolding flatten
-length_both [] us = rw zero-add
-length_both (t ∷ ts) us = simp (length-append, length_both ts us, add_assoc)
+flatten-snoc ts t = flatten-append ts (t ∷ []) ∙ rw append-nil
 
--- an output in a mode over lent bytes
-abbrev pub over : Mode → List ℕ → Output
-over m b = record { mode = m; bytes = b }
+length-snoc : (ts : List (List ℕ)) (t : List ℕ) → length (flatten (ts ++ t ∷ [])) ≡ length (flatten ts) + length t
+length-snoc ts t = rw (flatten-snoc, length-append)
 
--- what one piece does: it fits, or it is refused
-pub count_cases : (P : PieceOutcome → Type 0) (n : ℕ) (b t : List ℕ) → (n + length t ≤ most → P (to (counting (n + length t)) b 0)) → P (to (counting n) b 6) → P (put_in (counting n) b t)
-count_cases P n b t y r = go (dec_le (n + length t) most)
-  where
-    go : Dec (n + length t ≤ most) → P (put_in (counting n) b t)
-    go (yes h) = rw (le-ltb _ _ h) (y h)
-    go (no h) = rw (lt-ltb most (n + length t) (omega arith)) r
+-- how far a mode may go, and what it answers past that
+abbrev pub cap_of : Mode → List ℕ → ℕ
+cap_of (counting n) b = most
+cap_of (writing p) b = length b
 
-pub write_cases : (P : PieceOutcome → Type 0) (p : ℕ) (b t : List ℕ)
-    → (p + length t ≤ length b → P (to (writing (p + length t)) (splice b p t) 0)) → (length b < p + length t → P (to (stopped p) b 1)) → P (put_in (writing p) b t)
-unfolding placed
-write_cases P p b t y r = go (dec_le (p + length t) (length b))
-  where
-    go : Dec (p + length t ≤ length b) → P (put_in (writing p) b t)
-    go (yes h) = rw (le-ltb _ _ h) (y h)
-    go (no h) = rw (lt-ltb (length b) (p + length t) (omega arith)) (r (omega arith))
+abbrev pub code_of : Mode → ℕ
+code_of (counting n) = number_of CountTooLarge
+code_of (writing p) = number_of NotEnoughSpace
 
--- the output once pieces have gone to it, and where that is so: the total does not pass, the cursor is in the lent bytes
+-- the output once the text t has gone to it, and where there is room for that
+abbrev with_text : Mode → List ℕ → List ℕ → Output
+with_text (counting n) b t = record { mode = counting (n + length t); bytes = b }
+with_text (writing p) b t = record { mode = writing (p + length t); bytes = splice b p t }
+
+abbrev Room : Mode → List ℕ → List ℕ → Type 0
+Room m b t = number_in m + length t ≤ cap_of m b
+
+-- the same of pieces
 abbrev pub after : Mode → List ℕ → List (List ℕ) → Output
-after (counting n) b ts = over (counting (n + length (flatten ts))) b
-after (writing p) b ts = packet b p ts
-after (stopped p) b ts = over (stopped p) b
+after m b ts = with_text m b (flatten ts)
 
 abbrev pub Fits : Mode → List ℕ → List (List ℕ) → Type 0
-Fits (counting n) b ts = n + length (flatten ts) ≤ most
-Fits (writing p) b ts = p ≤ length b
-Fits (stopped p) b ts = p ≤ length b
+Fits m b ts = Room m b (flatten ts)
 
-abbrev pub after_of : Output → List (List ℕ) → Output
-after_of d ts = after d.mode d.bytes ts
+abbrev pub Passes : Mode → List ℕ → List (List ℕ) → Type 0
+Passes m b ts = cap_of m b < number_in m + length (flatten ts)
 
-abbrev pub FitsIn : Output → List (List ℕ) → Type 0
-FitsIn d ts = Fits d.mode d.bytes ts
+abbrev pub sent : Mode → List ℕ → List (List ℕ) → PieceOutcome
+sent m b ts = record { answer = 0; output = after m b ts }
 
-pub inside : (m : Mode) (b : List ℕ) (ts : List (List ℕ)) → Fits m b ts → beyond m b ≡ 0
-inside (counting n) b ts h = refl
-inside (writing p) b ts h = rw (le-ltb (length b) p h)
-inside (stopped p) b ts h = rw (le-ltb (length b) p h)
+pub fits-left : (m : Mode) (b : List ℕ) (ts us : List (List ℕ)) → Fits m b (ts ++ us) → Fits m b ts
+fits-left m b ts us h = omega (arith, rw length_both at h)
 
--- a packet: no piece, then one piece and the rest
-leb_less : (k a n : ℕ) → k ≤ n → leb (k + a) n ≡ leb a (n - k)
-leb_less k a n h = go (dec_le (k + a) n)
+-- what one piece does, by whether it fits
+in_fits : (m : Mode) (b t : List ℕ) → Room m b t → put_in m b t ≡ record { answer = 0; output = with_text m b t }
+unfolding placed
+in_fits (counting n) b t h = rw (le-ltb _ _ h)
+in_fits (writing p) b t h = rw (le-ltb _ _ h)
+
+in_over : (m : Mode) (b t : List ℕ) → cap_of m b < number_in m + length t → put_in m b t ≡ to m b (code_of m)
+unfolding placed
+in_over (counting n) b t h = rw (lt-ltb _ _ h)
+in_over (writing p) b t h = rw (lt-ltb _ _ h)
+
+in_cases : (P : PieceOutcome → Type 0) (m : Mode) (b t : List ℕ)
+    → (Room m b t → P (record { answer = 0; output = with_text m b t })) → P (to m b (code_of m)) → P (put_in m b t)
+in_cases P m b t y n = go (dec_le (number_in m + length t) (cap_of m b))
   where
-    go : Dec (k + a ≤ n) → leb (k + a) n ≡ leb a (n - k)
-    go (yes i) = rw (le-leb (k + a) n i, le-leb a (n - k) (omega arith))
-    go (no i) = rw (lt-leb (k + a) n (omega arith), lt-leb a (n - k) (omega arith))
+    go : Dec (Room m b t) → P (put_in m b t)
+    go (yes h) = rw (in_fits m b t h) (y h)
+    go (no h) = rw (in_over m b t (omega arith)) n
 
-pub after-nil : (m : Mode) (b : List ℕ) → after m b [] ≡ over m b
-unfolding packet flatten
-after-nil (counting n) b = rw add-zero
-after-nil (writing p) b = rw (le-leb 0 (length b - p) (omega arith), splice-nil b p, add-zero)
-after-nil (stopped p) b = refl
+pub hold_code : (m : Mode) (a : ℕ) → hold (code_of m) a ≡ code_of m
+hold_code (counting n) a = refl
+hold_code (writing p) a = refl
 
-packet-more : (b : List ℕ) (p : ℕ) (t : List ℕ) (ts : List (List ℕ)) → p + length t ≤ length b → packet b p (t ∷ ts) ≡ packet (splice b p t) (p + length t) ts
-unfolding packet flatten
-packet-more b p t ts k =
-    let e : length b - (p + length t) ≡ length b - p - length t = omega arith in
-    rw (length-splice b p t k, e, le-leb (length t) (length b - p) (omega arith), splice-splice b p t _ k, ← leb_less (length t) (length (flatten ts)) (length b - p) (omega arith))
-    (simp (length-append, add_assoc))
+module _ (b : List ℕ) where
+  pub put_law : (m : Mode) (ts : List (List ℕ)) (t : List ℕ) → Fits m b (ts ++ t ∷ [])
+      → put_in (after m b ts).mode (after m b ts).bytes t ≡ sent m b (ts ++ t ∷ [])
+  put_law (counting n) ts t h =
+      let k : n + length (flatten ts) + length t ≤ most = omega (arith, rw length-snoc at h) in
+      rw (in_fits (counting (n + length (flatten ts))) b t k, length-snoc, add_assoc)
+  put_law (writing p) ts t h =
+      let k : p + length (flatten ts) + length t ≤ length b = omega (arith, rw length-snoc at h) in
+      let j : p + length (flatten ts) ≤ length b = omega arith in
+      let i : p + length (flatten ts) + length t ≤ length (splice b p (flatten ts)) = rw (length-splice b p (flatten ts) j) k in
+      rw (in_fits (writing (p + length (flatten ts))) (splice b p (flatten ts)) t i, splice-splice b p (flatten ts) t j, flatten-snoc, length-append, add_assoc)
 
-packet-full : (b : List ℕ) (p : ℕ) (t : List ℕ) (ts : List (List ℕ)) → length b < p + length t → p ≤ length b → packet b p (t ∷ ts) ≡ over (stopped p) b
-unfolding packet flatten
-packet-full b p t ts k h = rw (lt-leb (length t) (length b - p) (omega arith), length-append, lt-leb (length t + length (flatten ts)) (length b - p) (omega arith), splice-nil b p, add-zero)
+  pub put-over : (m : Mode) (ts : List (List ℕ)) (t : List ℕ) → Fits m b ts → Passes m b (ts ++ t ∷ [])
+      → (put_in (after m b ts).mode (after m b ts).bytes t).answer ≡ code_of m
+  put-over (counting n) ts t f h =
+      let k : most < n + length (flatten ts) + length t = omega (arith, rw length-snoc at h) in
+      ap (λ (r : PieceOutcome). r.answer) (in_over (counting (n + length (flatten ts))) b t k)
+  put-over (writing p) ts t f h =
+      let k : length b < p + length (flatten ts) + length t = omega (arith, rw length-snoc at h) in
+      let i : length (splice b p (flatten ts)) < p + length (flatten ts) + length t = rw (length-splice b p (flatten ts) f) k in
+      ap (λ (r : PieceOutcome). r.answer) (in_over (writing (p + length (flatten ts))) (splice b p (flatten ts)) t i)
 
--- one piece: it answers what the mode after it says, and what comes behind it goes on from there
-abbrev GoesOn : Mode → List ℕ → List ℕ → List (List ℕ) → PieceOutcome → Type 0
-GoesOn m b t us r = (r.answer ≡ stop_in r.output.mode) × FitsIn r.output us × ((ts : List (List ℕ)) → after m b (t ∷ ts) ≡ after_of r.output ts)
+  module _ (m : Mode) where
+    snoc : (ts : List (List ℕ)) (u : List ℕ) (us : List (List ℕ)) → ts ++ u ∷ [] ++ us ≡ ts ++ u ∷ us
+    snoc ts u us = append_assoc ts (u ∷ []) us
 
-one_piece : (m : Mode) (b t : List ℕ) (us : List (List ℕ)) → Fits m b (t ∷ us) → GoesOn m b t us (put_in m b t)
-one_piece (counting n) b t us h =
-    let k : n + length t ≤ most = omega (arith, length_cons t us) in
-    rw (le-ltb _ _ k) (refl, omega (arith, length_cons t us), λ ts. rw (length_cons, add_assoc))
-one_piece (writing p) b t us h =
-    write_cases (GoesOn (writing p) b t us) p b t
-    (λ k. (refl, rw (length-splice b p t k) k, λ ts. packet-more b p t ts k)) (λ k. (refl, h, λ ts. packet-full b p t ts k h))
-one_piece (stopped p) b t us h = (refl, h, λ ts. refl)
+    snoc-left : (ts : List (List ℕ)) (u : List ℕ) (us : List (List ℕ)) → Fits m b (ts ++ u ∷ us) → Fits m b (ts ++ u ∷ [])
+    snoc-left ts u us h = fits-left m b (ts ++ u ∷ []) us (rw snoc h)
 
--- pieces and then more
-pub after-append : (m : Mode) (b : List ℕ) (ts us : List (List ℕ)) → Fits m b (ts ++ us) → FitsIn (after m b ts) us × (after_of (after m b ts) us ≡ after m b (ts ++ us))
-after-append m b [] us h = rw (after-nil m b) (h, refl)
-after-append m b (t ∷ ts) us h =
-    let d = (put_in m b t).output in
-    let k = one_piece m b t (ts ++ us) h in
-    rw (k.2 ts, k.2 (ts ++ us)) (after-append d.mode d.bytes ts us k.1)
+    pub tries_law : (ts us : List (List ℕ)) → Fits m b (ts ++ us) → tries (after m b ts) us ≡ sent m b (ts ++ us)
+    tries_law ts [] h = rw append-nil
+    tries_law ts (u ∷ us) h = rw (put_law m ts u (snoc-left ts u us h), tries_law (ts ++ u ∷ []) us (rw snoc h), snoc)
 
--- after a stop no piece changes anything
-tries-told : (a : ℕ) (m : Mode) (b : List ℕ) (us : List (List ℕ)) → a ≡ stop_in m
-    → ◌≡◌ {A = PieceOutcome} (record { answer = hold a (tries (over m b) us).answer; output = (tries (over m b) us).output }) (tries (over m b) us)
-tries-told a (counting n) b us e = rw e
-tries-told a (writing p) b us e = rw e
-tries-told a (stopped p) b [] e = rw e
-tries-told a (stopped p) b (u ∷ us) e = rw e
+    pub stops_law : (ts us : List (List ℕ)) → Fits m b (ts ++ us) → stops (after m b ts) us ≡ sent m b (ts ++ us)
+    stops_law ts [] h = rw append-nil
+    stops_law ts (u ∷ us) h = rw (put_law m ts u (snoc-left ts u us h), stops_law (ts ++ u ∷ []) us (rw snoc h), snoc)
 
-stops-told : (a : ℕ) (m : Mode) (b : List ℕ) (us : List (List ℕ)) → a ≡ stop_in m
-    → go_on a (record { answer = a; output = over m b }) (stops (over m b) us) ≡ stops (over m b) us
-stops-told a (counting n) b us e = rw e
-stops-told a (writing p) b us e = rw e
-stops-told a (stopped p) b [] e = rw e
-stops-told a (stopped p) b (u ∷ us) e = rw e
+    pub tries-over : (ts us : List (List ℕ)) → Fits m b ts → Passes m b (ts ++ us) → (tries (after m b ts) us).answer ≡ code_of m
+    tries-over ts [] f h = absurd (omega (arith, rw append-nil at h))
+    tries-over ts (u ∷ us) f h = go (dec_le (number_in m + length (flatten (ts ++ u ∷ []))) (cap_of m b)) (λ k. tries-over (ts ++ u ∷ []) us k (rw snoc h))
+      where
+        go : Dec (Fits m b (ts ++ u ∷ [])) → (Fits m b (ts ++ u ∷ []) → (tries (after m b (ts ++ u ∷ [])) us).answer ≡ code_of m) → (tries (after m b ts) (u ∷ us)).answer ≡ code_of m
+        go (yes k) ih = rw (put_law m ts u k) (ih k)
+        go (no k) ih = rw (put-over m ts u f (omega arith), hold_code m)
 
--- so do pieces that are tried, and pieces up to the first refusal
-pub tries_law : (m : Mode) (b : List ℕ) (us : List (List ℕ)) → Fits m b us → tries (over m b) us ≡ put_none (after m b us)
-tries_law m b [] h = rw (after-nil m b)
-tries_law m b (u ∷ us) h = let k = one_piece m b u us h in tries-told _ _ _ us k.0 ∙ tries_law _ _ us k.1 ∙ ap put_none (sym (k.2 us))
-
-pub stops_law : (m : Mode) (b : List ℕ) (us : List (List ℕ)) → Fits m b us → stops (over m b) us ≡ put_none (after m b us)
-stops_law m b [] h = rw (after-nil m b)
-stops_law m b (u ∷ us) h = let k = one_piece m b u us h in stops-told _ _ _ us k.0 ∙ stops_law _ _ us k.1 ∙ ap put_none (sym (k.2 us))
-
-pub put_law : (m : Mode) (b t : List ℕ) → Fits m b (t ∷ []) → put_in m b t ≡ put_none (after m b (t ∷ []))
-put_law m b t h = let k = one_piece m b t [] h in rw (k.2 [], after-nil) (ap (λ (a : ℕ). record { answer = a; output = (put_in m b t).output }) k.0)
-
--- a packet answers 1 once its text does not fit, and tests boundaries in either case
-pub packet-told : (b : List ℕ) (p : ℕ) (ts : List (List ℕ)) →
-    let m = (packet b p ts).mode in
-    (stop_in m ≡ cond (leb (length (flatten ts)) (length b - p)) 0 1) × ((x : ℕ) → cut_in m x ≡ x)
-unfolding packet
-packet-told b p ts = go (leb (length (flatten ts)) (length b - p)) _
+-- pieces that stop at the first refusal answer what tried ones do
+pub stops-answer : (d : Output) (us : List (List ℕ)) → (stops d us).answer ≡ (tries d us).answer
+stops-answer d [] = refl
+stops-answer d (u ∷ us) = go (put d u).answer (put d u) _ refl (stops-answer (put d u).output us)
   where
-    go : (h : Bool) (c : ℕ) → (stop_in (cond h (writing c) (stopped c)) ≡ cond h 0 1) × ((x : ℕ) → cut_in (cond h (writing c) (stopped c)) x ≡ x)
-    go true c = (refl, λ x. refl)
-    go false c = (refl, λ x. refl)
+    go : (a : ℕ) (r next : PieceOutcome) {x : ℕ} → r.answer ≡ a → next.answer ≡ x → (go_on a r next).answer ≡ hold a x
+    go zero r next e k = k
+    go (suc a) r next e k = e
 
--- a packet whose text fits
-fitting-all : (n : ℕ) (ts : List (List ℕ)) → length (flatten ts) ≤ n → fitting n ts ≡ ts
-fitting-all n [] h = refl
-fitting-all n (t ∷ ts) h =
-    let k : length t + length (flatten ts) ≤ n = rw length_cons at h in
-    rw (le-leb (length t) n (omega arith), fitting-all (n - length t) ts (omega arith))
+-- pieces answer 0 or the code of the mode
+abbrev pub Coded : Mode → ℕ → Type 0
+Coded m a = (a ≡ 0) ⊎ (a ≡ code_of m)
 
-pub packet-fits : (b : List ℕ) (p : ℕ) (ts : List (List ℕ)) → length (flatten ts) ≤ length b - p
-    → packet b p ts ≡ over (writing (p + length (flatten ts))) (splice b p (flatten ts))
-unfolding packet
-packet-fits b p ts h = rw (le-leb _ _ h, fitting-all (length b - p) ts h)
+hold-coded : (m : Mode) (a x : ℕ) → Coded m a → Coded m x → Coded m (hold a x)
+hold-coded m a x (inl e) k = rw e k
+hold-coded m a x (inr e) k = rw e (inr (hold_code m x))
+
+-- What every piece keeps: the rest of the bytes, and a cursor that is in them
+abbrev Within : Mode → List ℕ → Type 0
+Within (counting n) b = Unit {0}
+Within (writing c) b = c ≤ length b
+
+abbrev pub Kept : Mode → List ℕ → Mode → List ℕ → Type 0
+Kept m₀ b₀ m b = LeavesRest m₀ b₀ m b × Within m b
+
+abbrev pub KeptIn : Mode → List ℕ → Output → Type 0
+KeptIn m₀ b₀ d = Kept m₀ b₀ d.mode d.bytes
+
+-- so the code is the same, 3 is met in the same runs, and the cursor is in the lent bytes
+same_code : (m₀ : Mode) (b₀ : List ℕ) (m : Mode) (b : List ℕ) → Kept m₀ b₀ m b → code_of m ≡ code_of m₀
+same_code (counting n) b₀ (counting m) b h = refl
+same_code (counting n) b₀ (writing c) b h = absurd h.0
+same_code (writing p) b₀ (counting m) b h = absurd h.0
+same_code (writing p) b₀ (writing c) b h = refl
+
+pub same-cut : (m₀ : Mode) (b₀ : List ℕ) (m : Mode) (b : List ℕ) (c : ℕ) → Kept m₀ b₀ m b → cut_in m c ≡ cut_in m₀ c
+same-cut (counting n) b₀ (counting m) b c h = refl
+same-cut (counting n) b₀ (writing a) b c h = absurd h.0
+same-cut (writing p) b₀ (counting m) b c h = absurd h.0
+same-cut (writing p) b₀ (writing a) b c h = refl
+
+pub inside : (m : Mode) (b : List ℕ) → Within m b → beyond m b ≡ 0
+inside (counting m) b h = refl
+inside (writing c) b h = rw (le-ltb (length b) c h)
 
 -- a text behind the cursor leaves the rest
 rest-splice : (p : ℕ) (b₀ : List ℕ) (c : ℕ) (b t : List ℕ) → OnlyBetween b₀ p b c → c + length t ≤ length b → OnlyBetween b₀ p (splice b c t) (c + length t)
@@ -180,19 +192,43 @@ rest-splice p b₀ c b t h k =
       behind = drop_at (take c b ++ t) (drop (c + length t) b) (c + length t) n ∙ sym (drop-drop (length t) c b) ∙ rw h.behind (drop-drop (length t) c b₀);
     }
 
--- a run leaves it at its start
+-- a run leaves it at its start, and once pieces that fit have gone out
 pub rest-start : (m : Mode) (b : List ℕ) → LeavesRest m b m b
 rest-start (counting n) b = refl
 rest-start (writing p) b = record { forward = omega arith; size = refl; before = refl; behind = refl }
-rest-start (stopped p) b = (refl, refl)
+
+pub kept_start : (m : Mode) (b : List ℕ) → number_in m ≤ cap_of m b → Kept m b m b
+kept_start (counting n) b h = (refl, tt)
+kept_start (writing p) b h = (rest-start (writing p) b, h)
+
+pub kept_after : (m : Mode) (b : List ℕ) (ts : List (List ℕ)) → Fits m b ts → KeptIn m b (after m b ts)
+kept_after (counting n) b ts h = (refl, tt)
+kept_after (writing p) b ts h = (rest-splice p b p b (flatten ts) (rest-start (writing p) b) h, rw (length-splice b p (flatten ts) h) h)
 
 -- a piece that is written leaves the rest, and one that is refused all
 pub put_rest : (m₀ : Mode) (b₀ : List ℕ) (m : Mode) (b t : List ℕ) → LeavesRest m₀ b₀ m b → LeavesRest m₀ b₀ (put_in m b t).output.mode (put_in m b t).output.bytes
-put_rest (counting n) b₀ (counting m) b t h = count_cases (λ (r : PieceOutcome). LeavesRest (counting n) b₀ r.output.mode r.output.bytes) m b t (λ k. h) h
+put_rest (counting n) b₀ (counting m) b t h =
+    in_cases (λ (r : PieceOutcome). LeavesRest (counting n) b₀ r.output.mode r.output.bytes) (counting m) b t (λ k. h) h
 put_rest (counting n) b₀ (writing c) b t h = absurd h
 put_rest (writing p) b₀ (counting m) b t h = absurd h
 put_rest (writing p) b₀ (writing c) b t h =
-    write_cases (λ (r : PieceOutcome). LeavesRest (writing p) b₀ r.output.mode r.output.bytes) c b t (rest-splice p b₀ c b t h) (λ k. h)
-put_rest (stopped p) b₀ (counting m) b t h = absurd h
-put_rest (stopped p) b₀ (writing c) b t h = absurd h
-put_rest m₀ b₀ (stopped c) b t h = h
+    in_cases (λ (r : PieceOutcome). LeavesRest (writing p) b₀ r.output.mode r.output.bytes) (writing c) b t (λ k. rest-splice p b₀ c b t h k) h
+
+put-within : (m : Mode) (b t : List ℕ) → Within m b → Within (put_in m b t).output.mode (put_in m b t).output.bytes
+put-within (counting m) b t h = in_cases (λ (r : PieceOutcome). Within r.output.mode r.output.bytes) (counting m) b t (λ k. tt) tt
+put-within (writing c) b t h = in_cases (λ (r : PieceOutcome). Within r.output.mode r.output.bytes) (writing c) b t (λ k. rw (length-splice b c t k) k) h
+
+pub put_kept : (m₀ : Mode) (b₀ : List ℕ) (m : Mode) (b t : List ℕ) → Kept m₀ b₀ m b → KeptIn m₀ b₀ (put_in m b t).output
+put_kept m₀ b₀ m b t h = (put_rest m₀ b₀ m b t h.0, put-within m b t h.1)
+
+module _ (m₀ : Mode) (b₀ : List ℕ) where
+  pub put-coded : (d : Output) (t : List ℕ) → KeptIn m₀ b₀ d → Coded m₀ (put d t).answer
+  put-coded d t h =
+      let e = same_code m₀ b₀ d.mode d.bytes h in
+      in_cases (λ (r : PieceOutcome). Coded m₀ r.answer) d.mode d.bytes t (λ k. inl refl) (inr e)
+
+  pub tries-coded : (d : Output) (us : List (List ℕ)) → KeptIn m₀ b₀ d → Coded m₀ (tries d us).answer
+  tries-coded d [] h = inl refl
+  tries-coded d (u ∷ us) h =
+      hold-coded m₀ _ _ (put-coded d u h)
+      (tries-coded (put d u).output us (put_kept m₀ b₀ d.mode d.bytes u h))

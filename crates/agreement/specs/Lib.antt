@@ -1,3 +1,2 @@
-pub mod Agreement
-pub mod Stopping
 pub mod Untouched
+pub mod Agreement

@@ -1,4 +1,6 @@
 // The ASCII test (wrapper_types/ascii_str.rs).
+#![tactic(auto)]
+
 ghost use Rattle.std.specs.Prelude.{◌≡◌};
 ghost use Rattle.ascii_str.specs.Ascii.{ascii_from, ascii_answer};
 

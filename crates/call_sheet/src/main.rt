@@ -1,5 +1,7 @@
 // The call sheet: reads standard input, writes standard output (document 01, 'The call sheet'). Its
 // memory is of fixed size, whatever the input's length.
+#![tactic(auto)]
+
 use libc::{STDIN_FILENO, STDOUT_FILENO};
 use line_input::read_more;
 use sheet_line::MAX_SIZE;

@@ -2,7 +2,7 @@
 use mathlib.Core.Bool.{true}
 use mathlib.Core.Path.{◌≡◌, refl}
 use mathlib.Core.List.{List, [], ◌∷◌, ◌++◌, flatten}
-use Prim.Native.Nat.{ℕ, zero, suc, ◌-◌}
+use Prim.Native.Nat.{ℕ, zero, suc}
 use Prim.Native.String.{String}
 use lib.IntN.{pos, negsuc}
 use lib.ListN.{length, replicate}
@@ -20,7 +20,7 @@ use Rattle.calls.specs.declared.Kind.TheVariants.{Struct, Tuple, List as ListKin
 use Rattle.calls.specs.declared.Settings.{Settings}
 use Rattle.calls.specs.Call.{Place, field, item, entry, Call, opens, place, value, sub, endsub, finish}
 use Rattle.calls.specs.Ledger.{ledger, fresh, text_in, Permitted}
-use Rattle.calls.specs.Model.{counting, writing, stopped, most, builder, State, step, Run, run, start}
+use Rattle.calls.specs.Model.{counting, writing, most, State, step, Run, run, start}
 
 abbrev pub plain : Settings
 plain = record { flags = default_flags }
@@ -193,50 +193,23 @@ pub sheet-closed : (ledger (fresh plain) sheet).pile ≡ []
 unfolding input_fault continues follow
 sheet-closed = refl
 
--- 6: counting goes on: later pieces are tried, the builder holds the 6, and the margin is not lowered; a closing tries no piece after a refused one
-abbrev count_from : ℕ → Settings → List Call → Run
-count_from n S cs = run (start (counting n) [] S) cs
-
-held : ((count_from (most - 3) plain sheet).answers ≡ 0 ∷ 0 ∷ 0 ∷ 6 ∷ []) × ((count_from (most - 3) plain sheet).state.output.mode ≡ counting most) × ((count_from (most - 3) plain sheet).state.margin ≡ 4) × ((count_from (most - 3) plain sheet).state.stack ≡ [])
-unfolding text_of input_fault cut_fault continues follow digit_text digits digits_in
+-- 1: with 3 bytes finish answers what the builder holds, the pieces that fit are there, and the margin is not lowered
+held : ((write 3 plain sheet).answers ≡ 0 ∷ 0 ∷ 0 ∷ 1 ∷ []) × ((write 3 plain sheet).state.output.bytes ≡ bytes "Px7") × ((write 3 plain sheet).state.margin ≡ 4) × ((write 3 plain sheet).state.stack ≡ [])
+unfolding text_of input_fault cut_fault placed continues follow digit_text digits digits_in
 held = (refl, refl, refl, refl)
 
-closing-stops : ((count_from (most - 8) alternate (made ListKind (place entry ∷ number 7 ∷ []))).answers ≡ 0 ∷ 0 ∷ 0 ∷ 6 ∷ []) × ((count_from (most - 8) alternate (made ListKind (place entry ∷ number 7 ∷ []))).state.output.mode ≡ counting (most - 1))
-    × ((count_from (most - 8) alternate (made ListKind (place entry ∷ number 7 ∷ []))).state.margin ≡ 0)
-unfolding text_of input_fault cut_fault continues digit_text digits digits_in
-closing-stops = (refl, refl, refl)
-
--- ticket 8: with 3 bytes ` { ` is refused: the field and every later call answer 1, the cursor stays behind `P`, and the builder closes
-stops-at_the_field : ((write 3 plain sheet).answers ≡ 0 ∷ 1 ∷ 1 ∷ 1 ∷ []) × ((write 3 plain sheet).state.output ≡ record { mode = stopped 1; bytes = bytes "P" ++ (0 ∷ 0 ∷ []) }) × ((write 3 plain sheet).state.margin ≡ 0) × ((write 3 plain sheet).state.stack ≡ [])
-unfolding text_of input_fault cut_fault placed continues follow digit_text digits digits_in
-stops-at_the_field = (refl, refl, refl, refl)
-
--- ticket 8: with 9 bytes the closing is refused, and the cursor stays at 8
-closing-refused : ((write 9 plain sheet).answers ≡ 0 ∷ 0 ∷ 0 ∷ 1 ∷ []) × ((write 9 plain sheet).state.output.mode ≡ stopped 8) × ((write 9 plain sheet).state.margin ≡ 0)
+-- 1: with 9 bytes the closing is refused, the cursor is 8, and the margin is lowered
+closing-refused : ((write 9 plain sheet).answers ≡ 0 ∷ 0 ∷ 0 ∷ 1 ∷ []) × ((write 9 plain sheet).state.output.mode ≡ writing 8) × ((write 9 plain sheet).state.margin ≡ 0)
 unfolding text_of input_fault cut_fault placed continues follow digit_text digits digits_in
 closing-refused = (refl, refl, refl)
 
--- ticket 8: a piece in the middle of a call stops it: in alternate form the separator and the margin are there, the name `xy` is not
-stops-within : (write 8 alternate (opens Struct (bytes "P") ∷ place (name "xy") ∷ [])).state.output ≡ record { mode = stopped 8; bytes = bytes "P {\n    " }
-unfolding placed continues follow
-stops-within = refl
-
--- ticket 8: after a stop calls that write nothing answer 1 too, and what is tested first is answered: 8, 7, 4, 5, then 3
-after_stop : write 0 plain (number 7 ∷ opens ListKind [] ∷ number 7 ∷ place entry ∷ place item ∷ sub lower ∷ endsub ∷ opens Struct (0xFF ∷ []) ∷ value (char display 0xD800) ∷ cut ++ (value (str display [] (whole [])) ∷ []))
-    ≡ record { answers = 1 ∷ 1 ∷ 8 ∷ 1 ∷ 8 ∷ 1 ∷ 1 ∷ 4 ∷ 5 ∷ 3 ∷ 1 ∷ []; state = record { output = record { mode = stopped 0; bytes = [] }; flags = default_flags; margin = 4; stack = builder (record { kind = ListKind; has_field = true; held = 0 }) ∷ [] } }
+-- 1: a finish tries no piece after a refused one
+closing-stops : (write 8 alternate (made ListKind (place entry ∷ number 7 ∷ []))).state.output ≡ record { mode = writing 7; bytes = bytes "[\n    7" ++ (0 ∷ []) }
 unfolding text_of input_fault cut_fault placed continues follow digit_text digits digits_in
-after_stop = refl
-
-after_stop_deep : (write 0 plain (number 7 ∷ nested 64 (opens ListKind [] ∷ sub lower ∷ []))).answers ≡ replicate 129 1 ++ (7 ∷ 7 ∷ [])
-unfolding text_of input_fault cut_fault placed continues follow digit_text digits digits_in
-after_stop_deep = refl
-
--- ticket 8: 9 is before all, also after a stop
-past-end-stopped : run (start (stopped 4) (replicate 3 0) plain) (number 7 ∷ finish ∷ []) ≡ record { answers = 9 ∷ 9 ∷ []; state = start (stopped 4) (replicate 3 0) plain }
-past-end-stopped = refl
+closing-stops = refl
 
 -- 1, ticket 5: a quoted string that is refused keeps the cursor and all bytes: `a'b` in 5 bytes, one short
 quoted-refused : run (start (writing 2) (replicate 7 9) plain) (value (str debug (bytes "a'b") (whole (bytes "a'b"))) ∷ [])
-    ≡ record { answers = 1 ∷ []; state = start (stopped 2) (replicate 7 9) plain }
+    ≡ record { answers = 1 ∷ []; state = start (writing 2) (replicate 7 9) plain }
 unfolding text_of input_fault cut_fault placed continues follow escape_of escaped
 quoted-refused = refl

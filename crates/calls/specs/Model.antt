@@ -1,8 +1,7 @@
--- Document 01, 'A nested record, and its count', and document 02, ticket 8: the formatter and the counter. Each call is judged, moves the open entries, and emits its pieces.
+-- Document 01, 'A nested record, and its count': the formatter and the counter. Each call is judged, moves the open entries, and emits its pieces.
 use Rattle.std.specs.Prelude.{Bool, true, false, cond, List, [], ◌∷◌, ℕ, zero, suc, ◌+◌, ◌-◌, ◌^◌, ltb, length}
-use Rattle.error.specs.declared.Answer.{Answer}
-use Rattle.error.specs.declared.Answer.TheVariants.{Done, NotEnoughSpace, CountTooLarge}
-use Rattle.error.specs.Answer.{number_of, is_done}
+use Rattle.error.specs.declared.Answer.TheVariants.{Done, CountTooLarge}
+use Rattle.error.specs.Answer.{number_of}
 use Rattle.formatting.specs.declared.flags.FormattingFlags.{FormattingFlags}
 use Rattle.str_writer.specs.Value.{text_of}
 use Rattle.str_writer.specs.Write.{Outcome, cursor_fault}
@@ -11,15 +10,14 @@ use Rattle.calls.specs.declared.Kind.{Kind}
 use Rattle.calls.specs.declared.Settings.{Settings}
 use Rattle.calls.specs.Call.{Place, Call, opens, place, value, sub, endsub, finish, open_pieces, place_pieces, close_pieces, Innermost, nothing, a_builder, a_sub, fault_number, cut_number, call_fault, hold}
 
--- 'A nested record': a counting run with its total, or a writing run with its cursor; ticket 8: a writing run that has stopped, with its cursor
+-- 'A nested record': a counting run with its total, or a writing run with its cursor
 pub data Mode : Type 0 where
-  counting writing stopped : ℕ → Mode
+  counting writing : ℕ → Mode
 
 -- 'A nested record': the total of a counting run, the cursor of a writing one
 abbrev pub number_in : Mode → ℕ
 number_in (counting n) = n
 number_in (writing p) = p
-number_in (stopped p) = p
 
 -- 'A nested record': the output is the mode with its number, and the lent bytes
 pub record Output : Type 0 where
@@ -39,33 +37,22 @@ to m b a = record { answer = a; output = record { mode = m; bytes = b } }
 abbrev pub most : ℕ
 most = 2 ^ 64 - 1
 
--- ticket 8: the mode m of what has been written, and from the first piece that is refused on stopped at the cursor p
-abbrev pub unless_refused : Answer → Mode → ℕ → Mode
-unless_refused a m p = cond (is_done a) m (stopped p)
-
 -- 'The writer': a single write's outcome as that of a piece
 abbrev pub wrote : Outcome → PieceOutcome
-wrote o = to (unless_refused o.written.answer (writing o.written.at) o.written.at) o.bytes (number_of o.written.answer)
+wrote o = to (writing o.written.at) o.bytes (number_of o.written.answer)
 
--- 'A nested record': a counting run adds the length of a piece, a writing run writes it; ticket 8: one that has stopped writes nothing more
+-- 'A nested record': a counting run adds the length of a piece, a writing run writes it
 abbrev pub put_in : Mode → List ℕ → List ℕ → PieceOutcome
 put_in (counting n) b t = cond (ltb most (n + length t)) (to (counting n) b (number_of CountTooLarge)) (to (counting (n + length t)) b (number_of Done))
 put_in (writing c) b t = wrote (placed_text b c t)
-put_in (stopped c) b t = to (stopped c) b (number_of NotEnoughSpace)
 
 -- 'The answer to a call': a refused piece keeps the total or the cursor, and all bytes
 abbrev pub put : Output → List ℕ → PieceOutcome
 put d t = put_in d.mode d.bytes t
 
--- ticket 8: every call answers 1 from the stop on, also one that has nothing to write
-abbrev pub stop_in : Mode → ℕ
-stop_in (counting n) = number_of Done
-stop_in (writing c) = number_of Done
-stop_in (stopped c) = number_of NotEnoughSpace
-
 -- 'A nested record': no piece
 abbrev pub put_none : Output → PieceOutcome
-put_none d = record { answer = stop_in d.mode; output = d }
+put_none d = record { answer = number_of Done; output = d }
 
 -- 'A nested record', opening, field or entry: each piece is tried even after one is refused
 abbrev pub tries : Output → List (List ℕ) → PieceOutcome
@@ -134,13 +121,11 @@ inner (outer U ∷ s) = a_sub
 abbrev pub beyond : Mode → List ℕ → ℕ
 beyond (counting n) b = number_of Done
 beyond (writing c) b = fault_number (cursor_fault b c)
-beyond (stopped c) b = fault_number (cursor_fault b c)
 
 -- 'The answer to a call', 3: writing only; a counting run does not test boundaries
 abbrev pub cut_in : Mode → ℕ → ℕ
 cut_in (counting n) c = number_of Done
 cut_in (writing p) c = c
-cut_in (stopped p) c = c
 
 -- judge. 'The answer to a call', order: 8, 7, then 2, 4 or 5, then 3
 abbrev pub judged : State → Call → ℕ
@@ -180,12 +165,6 @@ move_endsub F [] = unmoved F
 move_endsub F (builder B ∷ s) = unmoved F
 move_endsub F (outer U ∷ s) = record { flags = U.flags; margin = U.margin; stack = s }
 
--- 'A nested record': what a builder holds; ticket 8: in writing nothing, whatever stands there
-abbrev pub held_in : Mode → ℕ → ℕ
-held_in (counting n) h = h
-held_in (writing p) h = number_of Done
-held_in (stopped p) h = number_of Done
-
 -- move. 'A nested record', finish: if the builder holds a refusal, the margin is not lowered, else by 4; docs/DECISIONS.md, 'The formatter': a made-up margin below 4 is lowered to 0
 abbrev pub lowered : ℕ → ℕ → ℕ
 lowered zero m = m - 4
@@ -194,7 +173,7 @@ lowered (suc h) m = m
 -- move. 'A nested record', finish: the builder closes
 abbrev pub move_finish : State → List Entry → Moved
 move_finish F [] = unmoved F
-move_finish F (builder B ∷ s) = record { flags = F.flags; margin = lowered (held_in F.output.mode B.held) F.margin; stack = s }
+move_finish F (builder B ∷ s) = record { flags = F.flags; margin = lowered B.held F.margin; stack = s }
 move_finish F (outer U ∷ s) = unmoved F
 
 -- move: what a call that meets nothing does to flags, margin and entries
@@ -220,7 +199,7 @@ emit_close (suc h) d ts = record { answer = suc h; output = d }
 -- emit. 'A nested record', finish: the closing has the margin that is then left
 abbrev pub emit_finish : State → List Entry → PieceOutcome
 emit_finish F [] = put_none F.output
-emit_finish F (builder B ∷ s) = emit_close (held_in F.output.mode B.held) F.output (close_pieces B.kind (has_printed B) F.flags.is_alternate (F.margin - 4))
+emit_finish F (builder B ∷ s) = emit_close B.held F.output (close_pieces B.kind (has_printed B) F.flags.is_alternate (F.margin - 4))
 emit_finish F (outer U ∷ s) = put_none F.output
 
 -- emit: what the pieces of a call that meets nothing answer, and the output then
@@ -241,12 +220,6 @@ holds (sub f) = false
 holds endsub = false
 holds finish = false
 
--- ticket 8: in counting; in writing a refusal is answered at once by the call whose piece it was
-abbrev pub holds_in : Mode → Call → Bool
-holds_in (counting n) c = holds c
-holds_in (writing p) c = false
-holds_in (stopped p) c = false
-
 -- 'A nested record': the innermost builder holds the first refusal
 abbrev pub with_held : ℕ → List Entry → List Entry
 with_held a [] = []
@@ -265,7 +238,7 @@ guard (suc a) F o = record { answer = suc a; state = F }
 
 -- 'A nested record': a call is judged; if it meets nothing, it moves and emits
 abbrev pub step : State → Call → Out
-step F c = guard (fault_of F c) F (settled (holds_in F.output.mode c) (move F c) (emit F c))
+step F c = guard (fault_of F c) F (settled (holds c) (move F c) (emit F c))
 
 -- 'A nested record': the answers to a list of calls, and the formatter after them
 pub record Run : Type 0 where

@@ -1,5 +1,7 @@
 // The kinds of a record and what is fixed when a run is made. The definitions of this crate speak of
 // these types; it has no function.
+#![tactic(auto)]
+
 use formatting::FormattingFlags;
 
 // The kind of a builder.

@@ -1,5 +1,7 @@
 // Characters as UTF-8 and between quotation marks (char_encoding.rs). A character is a 32-bit
 // number, tested: what is no scalar value is answered with NotAChar, length 0 and zero bytes.
+#![tactic(auto)]
+
 ghost use Rattle.std.specs.Prelude.{◌≡◌, length};
 ghost use Rattle.utf8.specs.Utf8.{is_scalar, octets};
 ghost use Rattle.char_encoding.specs.Char.{utf8_char, fmt_char, char_len, char_display, char_inner, char_debug};

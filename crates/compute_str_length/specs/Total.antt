@@ -31,7 +31,7 @@ CountsCallThenLen r s o = CountsCall r.step r.total s o × (r.empty ≡ eqb r.to
 
 -- 'A nested record': one counter, lent through the calls: the same as of a call, of a run that ends in p
 abbrev pub CountsRun : Ran → ℕ → Played → Type 0
-CountsRun r total p = (end_counted r ≡ p) × (p.number ≡ total)
+CountsRun r total p = (end_counted r ≡ p) × (p.output.mode ≡ counting total)
 
 -- 'A nested record': r is what a run gives that ends in p, and what a length n answers and leaves that is added to its total
 abbrev pub CountsThenAdds : CountedThenAdded → Played → ℕ → Type 0

@@ -1,6 +1,8 @@
 // The counter of a counting run (the ComputeStrLength of fmt/formatter.rs): one counter, lent through
 // the calls and advanced by each. Each method takes the total out, calls a function on it by value and
 // stores what that leaves.
+#![tactic(auto)]
+
 ghost use Rattle.std.specs.Prelude.{◌≡◌, [], eqb};
 ghost use Rattle.calls.specs.Model.{counting};
 ghost use Rattle.formatter.specs.View.{view_out};

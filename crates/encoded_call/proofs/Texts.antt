@@ -12,9 +12,9 @@ use Rattle.encoded_call.specs.Encoding.{op_at, call_at}
 
 -- the text of a call: past the pool, longer than the pool, or within it
 module _ (o i n a b : ℕ) (t : List ℕ) where
-  pub text-past : length t < i → call_at o i n a b t ≡ none
+  pub text_past : length t < i → call_at o i n a b t ≡ none
   unfolding call_at
-  text-past p = rw (lt-leb i (length t) p)
+  text_past p = rw (lt-leb i (length t) p)
 
   pub text_long : i ≤ length t → length t - i < n → call_at o i n a b t ≡ none
   unfolding call_at

@@ -1,5 +1,7 @@
 // A call of a run as five numbers over a pool of texts: which call, where its text starts, how long
 // it is, and two numbers.
+#![tactic(auto)]
+
 ghost use Rattle.std.specs.Prelude.{◌≡◌, ◌^◌, ◌<◌, get_or};
 ghost use Rattle.formatter.specs.Calls.{step_or};
 ghost use Rattle.formatter.specs.View.{view, view_out};

@@ -1,5 +1,7 @@
 // The answer to a call (fmt/error.rs). The Rust's Result<(), Error> becomes one enum, with the
 // cases that stand where the Rust has a type or a panic.
+#![tactic(auto)]
+
 ghost use Rattle.std.specs.Prelude.{◌≡◌};
 ghost use Rattle.error.specs.Answer.{number_of, is_done};
 

@@ -73,21 +73,21 @@ read_shortest (b ∷ d ∷ s) n e =
     let w : decimal a ≡ b ∷ [] = decimal-low a (omega arith) ∙ rw v in
     rw w at (grows (d ∷ s) a n (omega arith) p.2))
 
-read_snoc : (s : List ℕ) (a k d : ℕ) → d < 10 → read_from a s ≡ some k → read_from a (s ++ ((48 + d) ∷ [])) ≡ some (k * 10 + d)
+read-snoc : (s : List ℕ) (a k d : ℕ) → d < 10 → read_from a s ≡ some k → read_from a (s ++ ((48 + d) ∷ [])) ≡ some (k * 10 + d)
 unfolding read_from
-read_snoc [] a k d h e =
+read-snoc [] a k d h e =
     let v : 48 + d - 48 ≡ d = omega arith in
     rw (le-leb 48 (48 + d) (omega arith), le-leb (48 + d) 57 (omega arith), v, some-injective a k e)
-read_snoc (b ∷ s) a k d h e =
+read-snoc (b ∷ s) a k d h e =
     let p = digit a b s k e in
-    rw (le-leb 48 b p.0, le-leb b 57 p.1) (read_snoc s (a * 10 + (b - 48)) k d h p.2)
+    rw (le-leb 48 b p.0, le-leb b 57 p.1) (read-snoc s (a * 10 + (b - 48)) k d h p.2)
 
 -- read back, the digits give the number
 read-decimal : (n : ℕ) → read_from 0 (decimal n) ≡ some n
 unfolding read_from
 read-decimal = by_digits 10 (lit≤ tt) (λ (n : ℕ). read_from 0 (decimal n) ≡ some n)
-    (λ n h. let v : 0 * 10 + n ≡ n = omega arith in rw (decimal-low n h) (read_snoc [] 0 0 n h refl ∙ ap some v))
-    (λ n h e. rw (decimal_step n h) (read_snoc (decimal (n / 10)) 0 (n / 10) (n % 10) (mod-lt n (omega arith)) e ∙ ap some (div-add-mod' n 10)))
+    (λ n h. let v : 0 * 10 + n ≡ n = omega arith in rw (decimal-low n h) (read-snoc [] 0 0 n h refl ∙ ap some v))
+    (λ n h e. rw (decimal_step n h) (read-snoc (decimal (n / 10)) 0 (n / 10) (n % 10) (mod-lt n (omega arith)) e ∙ ap some (div-add-mod' n 10)))
 
 -- only of 0 is the first digit `0`
 first-digit : (n : ℕ) → 0 < n → 48 < get_or (decimal n) 0 0

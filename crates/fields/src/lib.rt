@@ -1,5 +1,7 @@
 // Lines of fields parted by commas: words, decimal numbers and bytes in hexadecimal, read and
 // printed (document 01, 'The call sheet').
+#![tactic(auto)]
+
 mod decimal;
 mod hex;
 mod reading;

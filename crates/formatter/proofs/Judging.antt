@@ -7,7 +7,7 @@ use borrow.Author.Tests.{le-leb, lt-leb, lt-ltb, le-ltb}
 use Rattle.utf8.specs.Utf8.{well_formed}
 use Rattle.calls.specs.declared.Kind.{Kind}
 use Rattle.calls.specs.Call.{Place, Call, opens, place, value, endsub, finish, Innermost, a_builder, name_of, ready, suits, too_deep, fault_number, argument_fault, cut_number, call_fault, hold}
-use Rattle.calls.specs.Model.{Mode, counting, writing, stopped, cut_in, is_ready, inner}
+use Rattle.calls.specs.Model.{Mode, counting, writing, cut_in, is_ready, inner}
 use Rattle.str_writer.specs.Value.{Value, input_fault, cut_fault}
 use Rattle.writer_backend.specs.Output.{is_counting}
 use Rattle.formatter.specs.Entries.{is_builder, builder_of, entry_of}
@@ -92,13 +92,11 @@ module _ (n : ℕ) (v : Value) (r : Bool) (er : r ≡ ready (inner (entry_of n �
     pub value_unmet : f ≡ 0 → (x : ℕ) → x ≡ cut_in mode (fault_number (cut_fault v)) → JudgedAt x mode n (value v)
     value_unmet z x ex d m s e = rw (← fault d m s e, z) ex
 
--- 3 is for writing, also after a stop
+-- 3 is for writing
 pub cut-counted : (mode : Mode) (t : Bool) (x : ℕ) → t ≡ is_counting mode → t ≡ true → 0 ≡ cut_in mode x
 cut-counted (counting n) t x e q = refl
 cut-counted (writing p) t x e q = absurd (false≢true (sym e ∙ q))
-cut-counted (stopped p) t x e q = absurd (false≢true (sym e ∙ q))
 
 pub cut-written : (mode : Mode) (t : Bool) (x y : ℕ) → t ≡ is_counting mode → t ≡ false → x ≡ y → x ≡ cut_in mode y
 cut-written (counting n) t x y e q p = absurd (false≢true (sym q ∙ e))
 cut-written (writing p) t x y e q w = w
-cut-written (stopped p) t x y e q w = w

@@ -1,6 +1,6 @@
 -- Entries as numbers, and the depth of the stack.
-use mathlib.Core.Bool.{Bool, true, false, cond, false≢true}
-use mathlib.Core.Path.{◌≡◌, refl, sym, ap, ◌∙◌}
+use mathlib.Core.Bool.{Bool, true, false, cond}
+use mathlib.Core.Path.{◌≡◌, refl, ap, ◌∙◌}
 use mathlib.Core.List.{List, [], ◌∷◌}
 use Prim.Native.Nat.{ℕ, zero, suc, ◌+◌, ◌-◌, ◌*◌, ◌/◌, ◌%◌, ◌≤◌, ◌<◌}
 use native.Mathlib.Omega.{arith}
@@ -8,12 +8,10 @@ use lib.Dec.{eqb, leb}
 use lib.ListN.{length, get_or}
 use borrow.Author.Tests.{le-leb, lt-leb, leb-true}
 use Rattle.formatting.specs.FlagsAsNumber.{flags_of}
-use Rattle.calls.specs.declared.Kind.{Kind}
 use Rattle.calls.specs.declared.Kind.TheVariants.{Set}
-use Rattle.calls.specs.Call.{Place, a_builder, ready, takes, finishes, ends, hold}
-use Rattle.calls.specs.Model.{Mode, counting, writing, stopped, held_in, Builder, Entry, builder, outer, is_ready, inner}
-use Rattle.writer_backend.specs.Output.{is_counting}
-use Rattle.formatter.specs.Entries.{kind_of, held_of, is_builder, builder_of, kept_in, outer_of, entry_of, IsBuilder}
+use Rattle.calls.specs.Call.{Place, a_builder, ready, takes, finishes, ends}
+use Rattle.calls.specs.Model.{Entry, builder, outer, is_ready, inner}
+use Rattle.formatter.specs.Entries.{kind_of, held_of, is_builder, builder_of, outer_of, entry_of}
 use Rattle.formatter.specs.View.{stack_of, top_of, depth_of, margin_of}
 
 -- the last kind
@@ -34,17 +32,6 @@ held_high zero h = absurd (omega arith)
 held_high (suc zero) h = absurd (omega arith)
 held_high (suc (suc n)) h = refl
 
--- in counting what is held says something, in writing nothing
-pub held-counted : (m : Mode) → is_counting m ≡ true → (h : ℕ) → h ≡ held_in m h
-held-counted (counting n) e h = refl
-held-counted (writing p) e h = absurd (false≢true e)
-held-counted (stopped p) e h = absurd (false≢true e)
-
-pub held-written : (m : Mode) → is_counting m ≡ false → (h : ℕ) → 0 ≡ held_in m h
-held-written (counting n) e h = absurd (false≢true (sym e))
-held-written (writing p) e h = refl
-held-written (stopped p) e h = refl
-
 -- a builder, and a sub-formatter
 pub is-builder : (n : ℕ) → is_builder n ≡ true → entry_of n ≡ builder (builder_of n)
 unfolding entry_of
@@ -54,50 +41,19 @@ pub is-outer : (n : ℕ) → is_builder n ≡ false → entry_of n ≡ outer (ou
 unfolding entry_of
 is-outer n h = rw h
 
-pub as_builder : (n : ℕ) {B : Builder} → IsBuilder n B → entry_of n ≡ builder B
-as_builder n e = is-builder n e.0 ∙ rw e.1
+-- a number is read as it was packed
+pub packed_builder : (a b h : ℕ) → a < 4 → b < 2 → held_of h ≡ h
+    → entry_of (2 * a + 8 * b + 16 * h) ≡ builder (record { kind = kind_of a; has_field = eqb b 1; held = h })
+packed_builder a b h ha hb hh =
+    let n = 2 * a + 8 * b + 16 * h in
+    let q₀ : n % 2 ≡ 0 = omega arith in
+    let q₁ : n / 2 ≡ a + 4 * b + 8 * h = omega arith in
+    let q₂ : n / 8 ≡ b + 2 * h = omega arith in
+    let q₃ : n / 16 ≡ h = omega arith in
+    let e₁ : n / 2 % 4 ≡ a = rw q₁ (omega arith) in
+    let e₂ : n / 8 % 2 ≡ b = rw q₂ (omega arith) in
+    is-builder n (rw q₀) ∙ rw (e₁, e₂, q₃, hh)
 
--- a number is the builder that its parts are
-by_parts : (n e a b h : ℕ) → is_builder e ≡ true → n % 2 ≡ e % 2 → n / 2 % 4 ≡ a → n / 8 % 2 ≡ b → n / 16 ≡ h → IsBuilder n (record { kind = kind_of a; has_field = eqb b 1; held = held_of h })
-by_parts n e a b h i p k f q = rw (p, k, f, q) (i, refl)
-
--- a new builder, one with a field, and one that in counting holds the first refusal
-pub newly : (a : ℕ) {k : Kind} → a < 4 → kind_of a ≡ k → IsBuilder (2 * a) (record { kind = k; has_field = false; held = 0 })
-newly a ha ek =
-    let n = 2 * a in
-    let q : n / 2 ≡ a = omega arith in
-    rw (← ek) (by_parts n 0 a 0 0 refl (omega arith) (rw q (omega arith)) (omega arith) (omega arith))
-
-pub fielded : (e : ℕ) → is_builder e ≡ true → IsBuilder (e - e % 16 + e % 8 + 8) (record { kind = (builder_of e).kind; has_field = true; held = (builder_of e).held })
-fielded e i =
-    let n = e - e % 16 + e % 8 + 8 in
-    let z : n ≡ 16 * (e / 16) + e % 8 + 8 = omega arith in
-    let x : n / 2 ≡ 8 * (e / 16) + e % 8 / 2 + 4 = omega arith in
-    let y : e / 2 ≡ 4 * (e / 8) + e % 8 / 2 = omega arith in
-    let p : n / 8 ≡ 2 * (e / 16) + 1 = omega arith in
-    by_parts n e (e / 2 % 4) 1 (e / 16) i (omega arith) (rw (x, y) (omega arith)) (rw p (omega arith)) (omega arith)
-
-held-some : (n a : ℕ) → 0 < n → hold (held_of n) a ≡ held_of n
-held-some zero a h = absurd (omega arith)
-held-some (suc zero) a h = refl
-held-some (suc (suc n)) a h = refl
-
-module _ (e a : ℕ) (i : is_builder e ≡ true) where
-  pub held_first : held_of a ≡ a → e < 16 → IsBuilder (e + 16 * a) (kept_in true a (builder_of e))
-  held_first h l =
-      let n = e + 16 * a in
-      let z : e / 16 ≡ 0 = omega arith in
-      let p : n / 2 ≡ e / 2 + 8 * a = omega arith in
-      let f : n / 8 ≡ e / 8 + 2 * a = omega arith in
-      rw z (rw h at (by_parts n e (e / 2 % 4) (e / 8 % 2) a i (omega arith) (rw p (omega arith)) (rw f (omega arith)) (omega arith)))
-
-  pub held-before : 16 ≤ e → IsBuilder e (kept_in true a (builder_of e))
-  held-before l = (i, rw (held-some (e / 16) a (omega arith)))
-
-pub kept_as : (v e a : ℕ) {B : Builder} → builder_of e ≡ B → IsBuilder v (kept_in true a (builder_of e)) → IsBuilder v (kept_in true a B)
-kept_as v e a q h = (h.0, h.1 ∙ ap (kept_in true a) q)
-
--- a sub-formatter is read as it was packed
 pub packed_outer : (a m : ℕ) → a < 16 → m < 65536 → entry_of (1 + 2 * a + 32 * m) ≡ outer (record { flags = flags_of a; margin = m })
 packed_outer a m ha hm =
     let n = 1 + 2 * a + 32 * m in

@@ -15,16 +15,18 @@ use Rattle.formatting.specs.FlagsAsNumber.{flags_of}
 use Rattle.str_writer.specs.Value.{Value, text_of, input_fault, cut_fault}
 use Rattle.calls.specs.declared.Kind.{Kind}
 use Rattle.calls.specs.Call.{Place, Call, opens, place, value, sub, endsub, finish, open_pieces, place_pieces, close_pieces, ready, fault_number, argument_fault, cut_of, cut_number, call_fault, hold}
-use Rattle.calls.specs.Model.{Mode, counting, writing, stopped, PieceOutcome, put, stop_in, cut_in, tries, stops, Builder, Entry, builder, outer, has_printed, State, Out, inner, beyond, judged, fault_of, move, emit, emit_close, held_in, lowered, holds, holds_in, settled, guard, step}
+use Rattle.calls.specs.Model.{Mode, counting, writing, PieceOutcome, put, cut_in, tries, stops, Entry, builder, outer, has_printed, State, Out, inner, beyond, judged, fault_of, move, emit, emit_close, lowered, holds, settled, guard, step}
 use Rattle.writer_backend.specs.declared.pieces.Wrote.{Wrote}
-use Rattle.writer_backend.specs.Output.{mode_of, is_counting, output_of, put_out}
+use Rattle.writer_backend.specs.Output.{mode_of, output_of, put_out}
+use Rattle.writer_backend.specs.Pieces.{try_all}
 use Rattle.value_writes.specs.Values.{unless_fault, value_out}
+use Rattle.writer_backend.proofs.Sequence.{tried}
 use Rattle.formatter.specs.declared.head.Head.{Head}
-use Rattle.formatter.specs.Entries.{is_builder, builder_of, kept_in, outer_of, entry_of, IsBuilder}
+use Rattle.formatter.specs.Entries.{is_builder, builder_of, outer_of, entry_of}
 use Rattle.formatter.specs.declared.dispatch.Begun.{Begun}
 use Rattle.formatter.specs.View.{stack_of, top_of, FaultAt, depth_of, margin_of, view, view_out, begun_at, place_tried, close_tried}
 use Rattle.formatter.specs.Calls.{fault_or, step_or}
-use Rattle.formatter.proofs.Laws.{is-builder, as_builder, is-outer, depth_in, depth-most, margin_in, length-stack, top_ready}
+use Rattle.formatter.proofs.Laws.{is-builder, is-outer, depth_in, depth-most, margin_in, length-stack, top_ready}
 use Rattle.formatter.proofs.Judging.{place-wrong, finish-wrong, endsub-wrong}
 
 -- the stack of numbers after a store, and its innermost entry
@@ -102,44 +104,28 @@ module _ (s : List ℕ) (n d m r : ℕ) (e : n ≡ top_of s d) (q : r ≡ 0) whe
       go true true p z = absurd (omega arith)
       go false x p z = absurd (omega arith)
 
-guard_on : (a : ℕ) (F : State) (o : Out) → (a ≡ 0 → ⊥) → record { answer = a; state = F } ≡ guard a F o
-guard_on zero F o q = absurd (q refl)
-guard_on (suc a) F o q = refl
+guard-on : (a : ℕ) (F : State) (o : Out) → (a ≡ 0 → ⊥) → record { answer = a; state = F } ≡ guard a F o
+guard-on zero F o q = absurd (q refl)
+guard-on (suc a) F o q = refl
 
-hold_on : (a x : ℕ) → (a ≡ 0 → ⊥) → hold a x ≡ a
-hold_on zero x q = absurd (q refl)
-hold_on (suc a) x q = refl
+hold-on : (a x : ℕ) → (a ≡ 0 → ⊥) → hold a x ≡ a
+hold-on zero x q = absurd (q refl)
+hold-on (suc a) x q = refl
 
 -- what cuts nothing meets what it is judged by
 hold_uncut : (n : ℕ) (m : Mode) → hold n (cut_in m 0) ≡ n
 hold_uncut zero (counting t) = refl
 hold_uncut zero (writing p) = refl
-hold_uncut zero (stopped p) = refl
 hold_uncut (suc n) m = refl
-
--- a refusal is held in counting, and answered at once in writing
-holds_as : (m : Mode) (c : Call) → holds c ≡ true → {t : Bool} → t ≡ is_counting m → holds_in m c ≡ t
-holds_as (counting n) c h e = h ∙ sym e
-holds_as (writing p) c h e = sym e
-holds_as (stopped p) c h e = sym e
-
-holds_not : (m : Mode) (c : Call) → holds c ≡ false → holds_in m c ≡ false
-holds_not (counting n) c h = h
-holds_not (writing p) c h = refl
-holds_not (stopped p) c h = refl
-
-settled-builder : (t : Bool) (f : FormattingFlags) (m : ℕ) (B : Builder) (s : List Entry) (r : PieceOutcome)
-    → record { answer = cond t 0 r.answer; state = record { output = r.output; flags = f; margin = m; stack = builder (kept_in t r.answer B) ∷ s } } ≡ settled t (record { flags = f; margin = m; stack = builder B ∷ s }) r
-settled-builder true f m B s r = refl
-settled-builder false f m B s r = refl
 
 -- what a call begins with, and its pieces, by their parts
 pub begun : (h : Head) (s : List ℕ) {d n : ℕ} → d ≡ depth_of h.depth → n ≡ top_of s d → record { depth = d; top = n } ≡ begun_at h s
 begun h s ed en = rw (en, ed)
 
 module _ (h : Head) (b : List ℕ) (n : ℕ) {k : Kind} {p : Bool} {f : FormattingFlags} {r : PieceOutcome} (ek : k ≡ (builder_of n).kind) (ep : p ≡ has_printed (builder_of n)) (ef : f ≡ flags_of h.flags) where
-  pub by_place : (x : Place) {m : ℕ} → m ≡ margin_of h.margin → r ≡ tries (output_of h.mode b) (place_pieces k p f.is_alternate m x) → r ≡ place_tried h b (builder_of n) x
-  by_place x em e = e ∙ rw (ek, ep, ef, em)
+  pub by_place : (x : Place) {g m : ℕ} → g ≡ (builder_of n).held → m ≡ margin_of h.margin
+      → r ≡ try_all (record { answer = g; output = output_of h.mode b }) (place_pieces k p f.is_alternate m x) → r ≡ place_tried h b (builder_of n) x
+  by_place x eg em e = e ∙ rw (ek, ep, ef, eg, em)
 
   pub by_close : (m : ℕ) → r ≡ stops (output_of h.mode b) (close_pieces k p f.is_alternate m) → r ≡ close_tried h b (builder_of n) m
   by_close m e = e ∙ rw (ek, ep, ef)
@@ -148,14 +134,14 @@ module _ (h : Head) (s b : List ℕ) where
   module _ (o : ℕ) (eo : o ≡ beyond (mode_of h.mode) b) where
     -- the cursor is past the bytes
     pub past_end : (c : Call) → (o ≡ 0 → ⊥) → view_out (record { answer = o; head = h }) s b ≡ step (view h s b) c
-    past_end c q = rw (← eo, hold_on o _ q) (guard_on o (view h s b) _ q)
+    past_end c q = rw (← eo, hold-on o _ q) (guard-on o (view h s b) _ q)
 
-    pub past-none : (o ≡ 0 → ⊥) → view_out (record { answer = o; head = h }) s b ≡ step_or (view h s b) none
-    past-none q = rw (← eo, hold_on o _ q)
+    pub past_none : (o ≡ 0 → ⊥) → view_out (record { answer = o; head = h }) s b ≡ step_or (view h s b) none
+    past_none q = rw (← eo, hold-on o _ q)
 
-    pub past-fault : (c : Option Call) → (o ≡ 0 → ⊥) → o ≡ fault_or (view h s b) c
-    past-fault none q = rw (← eo, hold_on o _ q)
-    past-fault (some c) q = rw (← eo, hold_on o _ q)
+    pub past_fault : (c : Option Call) → (o ≡ 0 → ⊥) → o ≡ fault_or (view h s b) c
+    past_fault none q = rw (← eo, hold-on o _ q)
+    past_fault (some c) q = rw (← eo, hold-on o _ q)
 
     pub none-fault : o ≡ 0 → 8 ≡ fault_or (view h s b) none
     none-fault q = rw (← eo, q)
@@ -184,9 +170,9 @@ module _ (h : Head) (s b : List ℕ) where
         met = rw (within, stack_is, length-stack s at.depth, ← em, ← er s begun-top, uncut) (sym (hold_uncut r (mode_of h.mode)))
 
         pub refuses : (r ≡ 0 → ⊥) → view_out (record { answer = r; head = h }) s b ≡ step (view h s b) c
-        refuses q = rw (← met) (guard_on r (view h s b) _ q)
+        refuses q = rw (← met) (guard-on r (view h s b) _ q)
 
-        does : r ≡ 0 → (y : Out) → y ≡ settled (holds_in (mode_of h.mode) c) (move (view h s b) c) (emit (view h s b) c) → y ≡ step (view h s b) c
+        does : r ≡ 0 → (y : Out) → y ≡ settled (holds c) (move (view h s b) c) (emit (view h s b) c) → y ≡ step (view h s b) c
         does q y e = e ∙ rw (← met, q)
 
       pub value-fault : (v : Value) (r : ℕ) → r ≡ hold (call_fault (inner (stack_of s at.depth)) at.depth (margin_of h.margin) (value v)) (cut_in (mode_of h.mode) (cut_number (value v))) → r ≡ fault_of (view h s b) (value v)
@@ -200,46 +186,44 @@ module _ (h : Head) (s b : List ℕ) where
         pushed : (v : ℕ) (x : Entry) → length s ≡ 64 → at.depth < 64 → entry_of v ≡ x → stack_of (set s at.depth v) (depth_of (at.depth + 1)) ≡ x ∷ stack_of s at.depth
         pushed v x l hl ev = rw (← depth_in (at.depth + 1) (omega arith), stack_push s at.depth v (omega arith), ev)
 
-        pub open_done : (k : Kind) (name : List ℕ) → FaultAt r at.top at.depth m (opens k name) → length s ≡ 64 → (t : Bool) → t ≡ is_counting (mode_of h.mode) → (w : Wrote) (b' : List ℕ) (v : ℕ)
+        pub open_done : (k : Kind) (name : List ℕ) → FaultAt r at.top at.depth m (opens k name) → length s ≡ 64 → (w : Wrote) (b' : List ℕ) (v : ℕ)
             → put_out w b' ≡ tries (output_of h.mode b) (open_pieces k name)
-            → IsBuilder v (kept_in t w.answer (record { kind = k; has_field = false; held = 0 })) → (a : ℕ) → a ≡ cond t 0 w.answer
-            → view_out (record { answer = a; head = record { mode = w.mode; flags = h.flags; margin = m + 4; depth = at.depth + 1 } }) (set s at.depth v) b' ≡ step (view h s b) (opens k name)
-        open_done k name er l t et w b' v ew ev a ea =
+            → entry_of v ≡ builder (record { kind = k; has_field = false; held = w.answer })
+            → view_out (record { answer = 0; head = record { mode = w.mode; flags = h.flags; margin = m + 4; depth = at.depth + 1 } }) (set s at.depth v) b' ≡ step (view h s b) (opens k name)
+        open_done k name er l w b' v ew ev =
             let room = open_room s at.top at.depth m r begun-top q k name er in
-            let B : Builder = record { kind = k; has_field = false; held = 0 } in
-            does m em (opens k name) refl r er q _ (rw (pushed v (builder (kept_in t w.answer B)) l room.0 (as_builder v ev), stack_is, margin_in (m + 4) (omega (arith, room.1)), ← em, holds_as (mode_of h.mode) (opens k name) refl et, ea)
-            (ap (λ (y : PieceOutcome). record { answer = cond t 0 y.answer; state = record { output = y.output; flags = flags_of h.flags; margin = m + 4; stack = builder (kept_in t y.answer B) ∷ stack_of s at.depth } }) ew
-            ∙ settled-builder t (flags_of h.flags) (m + 4) B (stack_of s at.depth) (tries (output_of h.mode b) (open_pieces k name))))
+            does m em (opens k name) refl r er q _ (rw (pushed v (builder (record { kind = k; has_field = false; held = w.answer })) l room.0 ev, stack_is, margin_in (m + 4) (omega (arith, room.1)), ← em)
+            (ap (λ (y : PieceOutcome). record { answer = 0; state = record { output = y.output; flags = flags_of h.flags; margin = m + 4; stack = builder (record { kind = k; has_field = false; held = y.answer }) ∷ stack_of s at.depth } }) ew))
 
-        pub sub-done : (f : FormattingFlags) → FaultAt r at.top at.depth m (sub f) → length s ≡ 64 → (v : ℕ) → entry_of v ≡ outer (record { flags = flags_of h.flags; margin = m }) → (x : ℕ) → flags_of x ≡ f → (a : ℕ) → a ≡ stop_in (mode_of h.mode)
-            → view_out (record { answer = a; head = record { mode = h.mode; flags = x; margin = h.margin; depth = at.depth + 1 } }) (set s at.depth v) b ≡ step (view h s b) (sub f)
-        sub-done f er l v ev x ex a ea =
-            does m em (sub f) refl r er q _ (rw (pushed v (outer (record { flags = flags_of h.flags; margin = m })) l (sub-room s at.top at.depth m r begun-top q f er) ev, stack_is, ex, ← em, holds_not (mode_of h.mode) (sub f) refl, ea))
+        pub sub-done : (f : FormattingFlags) → FaultAt r at.top at.depth m (sub f) → length s ≡ 64 → (v : ℕ) → entry_of v ≡ outer (record { flags = flags_of h.flags; margin = m }) → (x : ℕ) → flags_of x ≡ f
+            → view_out (record { answer = 0; head = record { mode = h.mode; flags = x; margin = h.margin; depth = at.depth + 1 } }) (set s at.depth v) b ≡ step (view h s b) (sub f)
+        sub-done f er l v ev x ex =
+            does m em (sub f) refl r er q _ (rw (pushed v (outer (record { flags = flags_of h.flags; margin = m })) l (sub-room s at.top at.depth m r begun-top q f er) ev, stack_is, ex, ← em))
 
       module _ (r : ℕ) (q : r ≡ 0) where
-        pub place-done : (x : Place) → FaultAt r at.top at.depth (margin_of h.margin) (place x) → length s ≡ 64 → (t : Bool) → t ≡ is_counting (mode_of h.mode) → (w : Wrote) (b' : List ℕ) (v : ℕ)
+        pub place-done : (x : Place) → FaultAt r at.top at.depth (margin_of h.margin) (place x) → length s ≡ 64 → (k : Kind) → k ≡ (builder_of at.top).kind → (w : Wrote) (b' : List ℕ) (v : ℕ)
             → put_out w b' ≡ place_tried h b (builder_of at.top) x
-            → IsBuilder v (kept_in t w.answer (record { kind = (builder_of at.top).kind; has_field = true; held = (builder_of at.top).held })) → (a : ℕ) → a ≡ cond t 0 w.answer
-            → view_out (record { answer = a; head = record { mode = w.mode; flags = h.flags; margin = h.margin; depth = h.depth } }) (set s (at.depth - 1) v) b' ≡ step (view h s b) (place x)
-        place-done x er l t et w b' v ew ev a ea =
-            let B : Builder = record { kind = (builder_of at.top).kind; has_field = true; held = (builder_of at.top).held } in
-            let i = place-builder s at.top at.depth (margin_of h.margin) r begun-top q x er in
-            let z = some-builder s at.depth at.top begun-top i in
-            does (margin_of h.margin) refl (place x) refl r er q _ (rw (← ed, stack_replace s at.depth v z (omega (arith, begun-depth)), as_builder v ev, builder-top s at.depth at.top begun-top i, holds_as (mode_of h.mode) (place x) refl et, ea)
-            (ap (λ (y : PieceOutcome). record { answer = cond t 0 y.answer; state = record { output = y.output; flags = flags_of h.flags; margin = margin_of h.margin; stack = builder (kept_in t y.answer B) ∷ stack_of s (at.depth - 1) } }) ew
-            ∙ settled-builder t (flags_of h.flags) (margin_of h.margin) B (stack_of s (at.depth - 1)) (place_tried h b (builder_of at.top) x)))
+            → entry_of v ≡ builder (record { kind = k; has_field = true; held = w.answer })
+            → view_out (record { answer = 0; head = record { mode = w.mode; flags = h.flags; margin = h.margin; depth = h.depth } }) (set s (at.depth - 1) v) b' ≡ step (view h s b) (place x)
+        place-done x er l k ek w b' v ew ev =
+            let B = builder_of at.top in
+            let t = place-builder s at.top at.depth (margin_of h.margin) r begun-top q x er in
+            let z = some-builder s at.depth at.top begun-top t in
+            does (margin_of h.margin) refl (place x) refl r er q _ (rw (← ed, stack_replace s at.depth v z (omega (arith, begun-depth)), ev, builder-top s at.depth at.top begun-top t, ek)
+            (ap (λ (y : PieceOutcome). record { answer = 0; state = record { output = y.output; flags = flags_of h.flags; margin = margin_of h.margin; stack = builder (record { kind = B.kind; has_field = true; held = y.answer }) ∷ stack_of s (at.depth - 1) } })
+            (ew ∙ tried B.held (output_of h.mode b) (place_pieces B.kind (has_printed B) (flags_of h.flags).is_alternate (margin_of h.margin) x))))
 
-        pub endsub-done : FaultAt r at.top at.depth (margin_of h.margin) endsub → (f : FormattingFlags) → f ≡ (outer_of at.top).flags → (y : ℕ) → y ≡ (outer_of at.top).margin → y < 65536 → (x : ℕ) → flags_of x ≡ f → (a : ℕ) → a ≡ stop_in (mode_of h.mode)
-            → view_out (record { answer = a; head = record { mode = h.mode; flags = x; margin = y; depth = at.depth - 1 } }) s b ≡ step (view h s b) endsub
-        endsub-done er f ef y ey hy x ex a ea =
-            does (margin_of h.margin) refl endsub refl r er q _ (rw (below, stack_is, outer-top s at.depth at.top begun-top (endsub-some s at.top at.depth (margin_of h.margin) r begun-top q er) (endsub-outer s at.top at.depth (margin_of h.margin) r begun-top q er), margin_in y hy, ex, ← ey, ← ef, holds_not (mode_of h.mode) endsub refl, ea))
+        pub endsub-done : FaultAt r at.top at.depth (margin_of h.margin) endsub → (f : FormattingFlags) → f ≡ (outer_of at.top).flags → (y : ℕ) → y ≡ (outer_of at.top).margin → y < 65536 → (x : ℕ) → flags_of x ≡ f
+            → view_out (record { answer = 0; head = record { mode = h.mode; flags = x; margin = y; depth = at.depth - 1 } }) s b ≡ step (view h s b) endsub
+        endsub-done er f ef y ey hy x ex =
+            does (margin_of h.margin) refl endsub refl r er q _ (rw (below, stack_is, outer-top s at.depth at.top begun-top (endsub-some s at.top at.depth (margin_of h.margin) r begun-top q er) (endsub-outer s at.top at.depth (margin_of h.margin) r begun-top q er), margin_in y hy, ex, ← ey, ← ef))
 
-        module _ (er : FaultAt r at.top at.depth (margin_of h.margin) finish) (g : ℕ) (eg : g ≡ held_in (mode_of h.mode) (builder_of at.top).held) where
+        module _ (er : FaultAt r at.top at.depth (margin_of h.margin) finish) (g : ℕ) (eg : g ≡ (builder_of at.top).held) where
           closing : stack_of s at.depth ≡ builder (builder_of at.top) ∷ stack_of s (at.depth - 1)
           closing = builder-top s at.depth at.top begun-top (finish-builder s at.top at.depth (margin_of h.margin) r begun-top q er)
 
           pub finish-held : (g ≡ 0 → ⊥) → view_out (record { answer = g; head = record { mode = h.mode; flags = h.flags; margin = h.margin; depth = at.depth - 1 } }) s b ≡ step (view h s b) finish
-          finish-held z = does (margin_of h.margin) refl finish refl r er q _ (rw (below, stack_is, closing, ← eg, holds_not (mode_of h.mode) finish refl) (go g z))
+          finish-held z = does (margin_of h.margin) refl finish refl r er q _ (rw (below, stack_is, closing, ← eg) (go g z))
             where
               go : (y : ℕ) → (y ≡ 0 → ⊥) → record { answer = y; state = record { output = output_of h.mode b; flags = flags_of h.flags; margin = margin_of h.margin; stack = stack_of s (at.depth - 1) } }
                   ≡ settled false (record { flags = flags_of h.flags; margin = lowered y (margin_of h.margin); stack = stack_of s (at.depth - 1) }) (emit_close y (output_of h.mode b) (close_pieces (builder_of at.top).kind (has_printed (builder_of at.top)) (flags_of h.flags).is_alternate (margin_of h.margin - 4)))
@@ -249,8 +233,8 @@ module _ (h : Head) (s b : List ℕ) where
           pub finish-closed : g ≡ 0 → (y : ℕ) → y ≡ margin_of h.margin - 4 → (w : Wrote) (b' : List ℕ) → put_out w b' ≡ close_tried h b (builder_of at.top) y
               → view_out (record { answer = w.answer; head = record { mode = w.mode; flags = h.flags; margin = y; depth = at.depth - 1 } }) s b' ≡ step (view h s b) finish
           finish-closed z y ey w b' ew =
-              let e : held_in (mode_of h.mode) (builder_of at.top).held ≡ 0 = sym eg ∙ z in
-              does (margin_of h.margin) refl finish refl r er q _ (rw (below, stack_is, closing, e, holds_not (mode_of h.mode) finish refl, ← ey, margin_in y (omega arith))
+              let e : (builder_of at.top).held ≡ 0 = sym eg ∙ z in
+              does (margin_of h.margin) refl finish refl r er q _ (rw (below, stack_is, closing, e, ← ey, margin_in y (omega arith))
               (ap (λ (t : PieceOutcome). record { answer = t.answer; state = record { output = t.output; flags = flags_of h.flags; margin = y; stack = stack_of s (at.depth - 1) } }) ew))
 
       -- a value, by whether it suits
@@ -266,7 +250,7 @@ module _ (h : Head) (s b : List ℕ) where
             → view_out (record { answer = w.answer; head = record { mode = w.mode; flags = h.flags; margin = h.margin; depth = h.depth } }) s b' ≡ step (view h s b) (value v)
         unfolding value_out
         value-done p f ef w b' ew =
-            rw (within, suits-value, p, holds_not (mode_of h.mode) (value v) refl)
+            rw (within, suits-value, p)
             (ap out (rw ef at ew ∙ rw within) ∙ go (hold (fault_number (input_fault v)) (cut_in (mode_of h.mode) (fault_number (cut_fault v)))) (put (output_of h.mode b) (text_of (flags_of h.flags) v)))
           where
             out : PieceOutcome → Out

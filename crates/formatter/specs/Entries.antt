@@ -1,11 +1,10 @@
 -- Which open entry a number of the stack is. Every number is one (docs/DECISIONS.md, 'The formatter').
-use Rattle.std.specs.Prelude.{Bool, true, false, cond, ◌≡◌, ℕ, zero, suc, ◌/◌, ◌%◌, eqb}
+use Rattle.std.specs.Prelude.{Bool, cond, ℕ, zero, suc, ◌/◌, ◌%◌, eqb}
 use Rattle.error.specs.declared.Answer.TheVariants.{Done, NotEnoughSpace, CountTooLarge}
 use Rattle.error.specs.Answer.{number_of}
 use Rattle.formatting.specs.FlagsAsNumber.{flags_of}
 use Rattle.calls.specs.declared.Kind.{Kind}
 use Rattle.calls.specs.declared.Kind.TheVariants.{Struct, Tuple, List, Set}
-use Rattle.calls.specs.Call.{hold}
 use Rattle.calls.specs.Model.{Builder, Outer, Entry, builder, outer}
 
 -- docs/DECISIONS.md, 'The formatter': the kind of a builder, by its number
@@ -25,14 +24,9 @@ held_of (suc (suc n)) = number_of CountTooLarge
 abbrev pub is_builder : ℕ → Bool
 is_builder n = eqb (n % 2) 0
 
--- docs/DECISIONS.md, 'The formatter': its kind, whether it has a field, the refusal that it holds, which says something in counting only
+-- docs/DECISIONS.md, 'The formatter': its kind, whether it has a field, the refusal that it holds
 abbrev pub builder_of : ℕ → Builder
 builder_of n = record { kind = kind_of (n / 2 % 4); has_field = eqb (n / 8 % 2) 1; held = held_of (n / 16) }
-
--- Document 01, 'A nested record', opening, field or entry: a builder whose pieces answered a: in counting it holds the first refusal; document 02, ticket 8: in writing none
-abbrev pub kept_in : Bool → ℕ → Builder → Builder
-kept_in true a B = record { kind = B.kind; has_field = B.has_field; held = hold B.held a }
-kept_in false a B = B
 
 -- docs/DECISIONS.md, 'The formatter': an odd number is a sub-formatter: the flags and the margin outside it; what stands above them says nothing
 abbrev pub outer_of : ℕ → Outer
@@ -41,7 +35,3 @@ outer_of n = record { flags = flags_of (n / 2 % 16); margin = n / 32 % 65536 }
 -- Document 01, 'Rust forms that cannot come along': in place of a builder that borrows, an open entry of the stack
 unfoldable pub entry_of : ℕ → Entry
 entry_of n = cond (is_builder n) (builder (builder_of n)) (outer (outer_of n))
-
--- docs/DECISIONS.md, 'The formatter': the number n is the builder B
-abbrev pub IsBuilder : ℕ → Builder → Type 0
-IsBuilder n B = (is_builder n ≡ true) × (builder_of n ≡ B)

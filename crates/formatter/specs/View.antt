@@ -2,8 +2,9 @@
 use Rattle.std.specs.Prelude.{cond, ◌≡◌, List, [], ◌∷◌, ℕ, zero, suc, ◌%◌, leb, get_or}
 use Rattle.formatting.specs.FlagsAsNumber.{flags_of}
 use Rattle.calls.specs.Call.{Call, Place, place_pieces, close_pieces, call_fault, cut_number, hold}
-use Rattle.calls.specs.Model.{Mode, Builder, has_printed, Entry, State, Out, PieceOutcome, inner, cut_in, tries, stops}
+use Rattle.calls.specs.Model.{Mode, Builder, has_printed, Entry, State, Out, PieceOutcome, inner, cut_in, stops}
 use Rattle.writer_backend.specs.Output.{output_of}
+use Rattle.writer_backend.specs.Pieces.{try_all}
 use Rattle.formatter.specs.Entries.{entry_of}
 use Rattle.formatter.specs.declared.head.Head.{Head}
 use Rattle.formatter.specs.declared.head.HeadStep.{HeadStep}
@@ -47,9 +48,10 @@ view_out r s b = record { answer = r.answer; state = view r.head s b }
 abbrev pub begun_at : Head → List ℕ → Begun
 begun_at h s = record { depth = depth_of h.depth; top = top_of s (depth_of h.depth) }
 
--- Document 01, 'A nested record', field or entry: its pieces, each tried
+-- Document 01, 'A nested record', field or entry: its pieces, tried from what the builder holds
 abbrev pub place_tried : Head → List ℕ → Builder → Place → PieceOutcome
-place_tried h b B x = tries (output_of h.mode b) (place_pieces B.kind (has_printed B) (flags_of h.flags).is_alternate (margin_of h.margin) x)
+place_tried h b B x =
+    try_all (record { answer = B.held; output = output_of h.mode b }) (place_pieces B.kind (has_printed B) (flags_of h.flags).is_alternate (margin_of h.margin) x)
 
 -- Document 01, 'A nested record', finish: the closing, with the margin that is then left, to the first refusal
 abbrev pub close_tried : Head → List ℕ → Builder → ℕ → PieceOutcome

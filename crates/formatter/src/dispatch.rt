@@ -1,12 +1,10 @@
 // A call of a run on the small part of a formatter, its stack of open entries and the buffer, each
 // lent: it is judged, it emits its pieces and moves the entries. What a call does not touch is not
 // copied.
-ghost use Rattle.std.specs.Prelude.{true, false, ◌≡◌, List, ℕ, ◌-◌, length};
-ghost use Rattle.calls.specs.Call.{opens, place, value, finish, sub, endsub, open_pieces};
-ghost use Rattle.calls.specs.Model.{tries, beyond, step};
-ghost use Rattle.error.specs.declared.Answer.TheVariants.{Done};
-ghost use Rattle.error.specs.Answer.{number_of};
-ghost use Rattle.writer_backend.specs.Output.{mode_of, is_counting, output_of, put_out};
+ghost use Rattle.std.specs.Prelude.{◌≡◌, List, ℕ, ◌-◌, length};
+ghost use Rattle.calls.specs.Call.{opens, place, value, finish, sub, endsub};
+ghost use Rattle.calls.specs.Model.{step};
+ghost use Rattle.writer_backend.specs.Output.{mode_of, put_out};
 ghost use Rattle.writer_backend.specs.Pieces.{place_of};
 ghost use Rattle.value_writes.specs.Values.{value_of};
 ghost use Rattle.formatter.specs.Calls.{call_of, fault_or, step_or};
@@ -15,8 +13,7 @@ ghost use Rattle.formatter.specs.View.{JudgedAt, view, view_out, begun_at, place
 ghost use Rattle.std.proofs.Math.Option.{none};
 
 use crate::entries::{
-    flags_in, has_printed, held_in, is_ready, kind_in, margin_in, new_builder, pack_outer,
-    with_field, with_held,
+    flags_in, has_printed, held_in, is_ready, kind_in, margin_in, pack_builder, pack_outer,
 };
 use crate::faults::{judge_endsub, judge_finish, judge_open, judge_place, judge_sub};
 use crate::head::{Head, HeadStep};
@@ -25,10 +22,7 @@ use calls::Kind;
 use error::Answer;
 use formatting::{FormattingFlags, flags_number};
 use value_writes::{PVariant, cut_fault, put_value, value_fault};
-use writer_backend::{
-    PlaceKind, WriterBackend, Wrote, count_close, count_name, count_place, from_counted,
-    from_written, no_room, past, write_close, write_name, write_place,
-};
+use writer_backend::{PlaceKind, WriterBackend, Wrote, close, past, place_pieces, put_name};
 
 // A call, whose text is lent beside it. Nothing is what is no call.
 #[derive(Drop)]
@@ -61,21 +55,6 @@ fn begin(h: Head, stack: &[u32; 64]) -> Begun
     }
 }
 
-// What a call answers, and the formatter with another output, margin and depth.
-fn answered(h: Head, answer: u8, mode: WriterBackend, margin: u64, depth: usize) -> HeadStep
-    ensures { result ≡ record { answer = answer; head = record { mode = mode; flags = h.flags; margin = margin; depth = depth } } }
-{
-    HeadStep {
-        answer,
-        head: Head {
-            mode,
-            flags: h.flags,
-            margin,
-            depth,
-        },
-    }
-}
-
 // The formatter as it was.
 fn refused(h: Head, answer: u8) -> HeadStep
     ensures { result ≡ record { answer = answer; head = h } }
@@ -83,24 +62,7 @@ fn refused(h: Head, answer: u8) -> HeadStep
     HeadStep { answer, head: h }
 }
 
-// The name of a builder counted, and written.
-fn counted_open(m: WriterBackend, k: Kind, name: &[u8]) -> Wrote
-    ensures { (b : List ℕ) → is_counting (mode_of m) ≡ true → put_out result b ≡ tries (output_of m b) (open_pieces k name.now) }
-{
-    from_counted(m, count_name(m.number, k, name))
-}
-
-fn written_open(m: WriterBackend, buf: &mut [u8], k: Kind, name: &[u8]) -> Wrote
-    ensures { is_counting (mode_of m) ≡ false → beyond (mode_of m) buf.old ≡ number_of Done →
-        put_out result buf.new ≡ tries (output_of m buf.old) (open_pieces k name.now) }
-{
-    if !m.is_writing() {
-        return no_room(m);
-    }
-    from_written(m, write_name(buf, m.number, k, name))
-}
-
-// Opens a builder: its name, and an entry without a field, which in counting holds what was refused.
+// Opens a builder: its name, and an entry without a field that holds what was refused.
 fn open_at(h: Head, stack: &mut [u32; 64], buf: &mut [u8], k: Kind, name: &[u8]) -> HeadStep
     ensures { view_out result stack.new buf.new ≡ step (view h stack.old buf.old) (opens k name.now) }
 {
@@ -114,67 +76,43 @@ fn open_at(h: Head, stack: &mut [u32; 64], buf: &mut [u8], k: Kind, name: &[u8])
     if fault != 0 {
         return refused(h, fault);
     }
-    let raised = (margin + 4) as u64;
-    let e = new_builder(k);
-    if h.is_counting() {
-        let c = counted_open(h.mode, k, name);
-        let depth = push(stack, at.depth, with_held(e, c.answer));
-        return answered(h, 0, c.mode, raised, depth);
+    let w = put_name(h.mode, buf, k, name);
+    let mode = w.mode;
+    let depth = push(stack, at.depth, pack_builder(k, false, w.answer));
+    HeadStep {
+        answer: 0,
+        head: Head {
+            mode,
+            flags: h.flags,
+            margin: (margin + 4) as u64,
+            depth,
+        },
     }
-    let w = written_open(h.mode, buf, k, name);
-    let depth = push(stack, at.depth, e);
-    answered(h, w.answer, w.mode, raised, depth)
 }
 
-// What goes before a field or an entry of the builder that top is, counted, and written.
-fn counted_place(h: Head, top: u32, p: PlaceKind, name: &[u8]) -> Wrote
-    ensures { (b : List ℕ) → is_counting (mode_of h.mode) ≡ true → put_out result b ≡ place_tried h b (builder_of top) (place_of p name.now) }
+// What goes before a field or an entry of the builder that top is, from what it holds.
+fn emit_place(h: Head, buf: &mut [u8], top: u32, p: PlaceKind, name: &[u8]) -> Wrote
+    ensures { put_out result buf.new ≡ place_tried h buf.old (builder_of top) (place_of p name.now) }
 {
     let mode = h.mode;
     let flags = h.flags();
-    let kind = kind_in(top);
-    let has = has_printed(top);
-    from_counted(
+    let t = Wrote {
+        answer: held_in(top),
         mode,
-        count_place(
-            mode.number,
-            kind,
-            has,
-            flags.is_alternate,
-            h.margin(),
-            p,
-            name,
-        ),
+    };
+    place_pieces(
+        t,
+        buf,
+        kind_in(top),
+        has_printed(top),
+        flags.is_alternate,
+        h.margin(),
+        p,
+        name,
     )
 }
 
-fn written_place(h: Head, buf: &mut [u8], top: u32, p: PlaceKind, name: &[u8]) -> Wrote
-    ensures { is_counting (mode_of h.mode) ≡ false → beyond (mode_of h.mode) buf.old ≡ number_of Done →
-        put_out result buf.new ≡ place_tried h buf.old (builder_of top) (place_of p name.now) }
-{
-    let mode = h.mode;
-    if !mode.is_writing() {
-        return no_room(mode);
-    }
-    let flags = h.flags();
-    let kind = kind_in(top);
-    let has = has_printed(top);
-    from_written(
-        mode,
-        write_place(
-            buf,
-            mode.number,
-            kind,
-            has,
-            flags.is_alternate,
-            h.margin(),
-            p,
-            name,
-        ),
-    )
-}
-
-// A field or an entry: the innermost builder has one, and in counting holds what was refused first.
+// A field or an entry: the innermost builder has one, and holds what was refused first.
 fn place_at(h: Head, stack: &mut [u32; 64], buf: &mut [u8], p: PlaceKind, name: &[u8]) -> HeadStep
     ensures { view_out result stack.new buf.new
         ≡ step (view h stack.old buf.old) (place (place_of p name.now)) }
@@ -189,15 +127,18 @@ fn place_at(h: Head, stack: &mut [u32; 64], buf: &mut [u8], p: PlaceKind, name: 
     if fault != 0 {
         return refused(h, fault);
     }
-    let e = with_field(top);
-    if h.is_counting() {
-        let c = counted_place(h, top, p, name);
-        replace(stack, at.depth, with_held(e, c.answer));
-        return answered(h, 0, c.mode, h.margin, h.depth);
+    let w = emit_place(h, buf, top, p, name);
+    let mode = w.mode;
+    replace(stack, at.depth, pack_builder(kind_in(top), true, w.answer));
+    HeadStep {
+        answer: 0,
+        head: Head {
+            mode,
+            flags: h.flags,
+            margin: h.margin,
+            depth: h.depth,
+        },
     }
-    let w = written_place(h, buf, top, p, name);
-    replace(stack, at.depth, e);
-    answered(h, w.answer, w.mode, h.margin, h.depth)
 }
 
 fn lower(margin: u16) -> u16
@@ -206,38 +147,22 @@ fn lower(margin: u16) -> u16
     if margin < 4 { 0 } else { margin - 4 }
 }
 
-// The closing of the builder that top is, with the margin that is then left, counted, and written.
-fn counted_close(h: Head, top: u32, margin: u16) -> Wrote
-    ensures { (b : List ℕ) → is_counting (mode_of h.mode) ≡ true → put_out result b ≡ close_tried h b (builder_of top) margin }
+// The closing of the builder that top is, with the margin that is then left.
+fn emit_close(h: Head, buf: &mut [u8], top: u32, margin: u16) -> Wrote
+    ensures { put_out result buf.new ≡ close_tried h buf.old (builder_of top) margin }
 {
-    let mode = h.mode;
     let flags = h.flags();
-    let kind = kind_in(top);
-    let has = has_printed(top);
-    from_counted(
-        mode,
-        count_close(mode.number, kind, has, flags.is_alternate, margin),
+    close(
+        h.mode,
+        buf,
+        kind_in(top),
+        has_printed(top),
+        flags.is_alternate,
+        margin as usize,
     )
 }
 
-fn written_close(h: Head, buf: &mut [u8], top: u32, margin: u16) -> Wrote
-    ensures { is_counting (mode_of h.mode) ≡ false → beyond (mode_of h.mode) buf.old ≡ number_of Done →
-        put_out result buf.new ≡ close_tried h buf.old (builder_of top) margin }
-{
-    let mode = h.mode;
-    if !mode.is_writing() {
-        return no_room(mode);
-    }
-    let flags = h.flags();
-    let kind = kind_in(top);
-    let has = has_printed(top);
-    from_written(
-        mode,
-        write_close(buf, mode.number, kind, has, flags.is_alternate, margin),
-    )
-}
-
-// Closes the innermost builder: what it holds in counting is answered, else its closing is written.
+// Closes the innermost builder: what it holds is answered, else its closing is written.
 fn finish_at(h: Head, stack: &[u32; 64], buf: &mut [u8]) -> HeadStep
     ensures { view_out result stack.now buf.new ≡ step (view h stack.now buf.old) finish }
 {
@@ -252,17 +177,31 @@ fn finish_at(h: Head, stack: &[u32; 64], buf: &mut [u8]) -> HeadStep
         return refused(h, fault);
     }
     let depth = pop(at.depth);
-    let low = lower(h.margin());
-    if h.is_counting() {
-        let held = held_in(top);
-        if held != 0 {
-            return answered(h, held, h.mode, h.margin, depth);
-        }
-        let c = counted_close(h, top, low);
-        return answered(h, c.answer, c.mode, low as u64, depth);
+    let held = held_in(top);
+    if held != 0 {
+        let mode = h.mode;
+        return HeadStep {
+            answer: held,
+            head: Head {
+                mode,
+                flags: h.flags,
+                margin: h.margin,
+                depth,
+            },
+        };
     }
-    let w = written_close(h, buf, top, low);
-    answered(h, w.answer, w.mode, low as u64, depth)
+    let low = lower(h.margin());
+    let w = emit_close(h, buf, top, low);
+    let mode = w.mode;
+    HeadStep {
+        answer: w.answer,
+        head: Head {
+            mode,
+            flags: h.flags,
+            margin: low as u64,
+            depth,
+        },
+    }
 }
 
 // Opens a sub-formatter with flags of its own.
@@ -281,7 +220,7 @@ fn sub_at(h: Head, stack: &mut [u32; 64], buf: &[u8], f: FormattingFlags) -> Hea
     let depth = push(stack, at.depth, pack_outer(h.flags(), h.margin()));
     let mode = h.mode;
     HeadStep {
-        answer: mode.stop_answer(),
+        answer: 0,
         head: Head {
             mode,
             flags: flags_number(f),
@@ -307,7 +246,7 @@ fn endsub_at(h: Head, stack: &[u32; 64], buf: &[u8]) -> HeadStep
     }
     let mode = h.mode;
     HeadStep {
-        answer: mode.stop_answer(),
+        answer: 0,
         head: Head {
             mode,
             flags: flags_number(flags_in(top)),
@@ -331,7 +270,16 @@ fn value_at(h: Head, stack: &[u32; 64], buf: &mut [u8], v: PVariant, s: &[u8]) -
         return refused(h, Answer::WrongCall.number());
     }
     let w = put_value(h.mode, h.flags(), buf, v, s);
-    answered(h, w.answer, w.mode, h.margin, h.depth)
+    let mode = w.mode;
+    HeadStep {
+        answer: w.answer,
+        head: Head {
+            mode,
+            flags: h.flags,
+            margin: h.margin,
+            depth: h.depth,
+        },
+    }
 }
 
 // What is no call: 8, after 9.
@@ -364,7 +312,7 @@ fn judge_value(mode: WriterBackend, top: u32, v: PVariant, s: &[u8]) -> u8
 }
 
 // What any call meets, 0 for nothing, without writing anything: 9, 8, 7, then 2, 4 or 5, then 3 in
-// writing, also after a stop. A call that meets nothing can be refused with 6 or 1 alone.
+// writing. A call that meets nothing can be refused with 6 or 1 alone.
 pub fn judge(h: Head, stack: &[u32; 64], buf: &[u8], op: Op, s: &[u8]) -> u8
     ensures { result ≡ fault_or (view h stack.now buf.now) (call_of op s.now) }
 {

@@ -1,12 +1,12 @@
 // An open entry as a number of the stack, its parts by their names.
-ghost use Rattle.std.specs.Prelude.{true, false, ◌≡◌, [], ◌∷◌, ◌<◌};
+ghost use Rattle.std.specs.Prelude.{◌≡◌, [], ◌∷◌, ◌<◌};
 ghost use Rattle.calls.specs.Call.{ready};
-ghost use Rattle.calls.specs.Model.{has_printed, outer, inner};
-ghost use Rattle.formatter.specs.Entries.{entry_of, is_builder, builder_of, IsBuilder, outer_of, held_of, kept_in, kind_of};
+ghost use Rattle.calls.specs.Model.{has_printed, builder, outer, inner};
+ghost use Rattle.formatter.specs.Entries.{entry_of, is_builder, builder_of, outer_of, held_of, kind_of};
 
 use calls::Kind;
 use error::Answer;
-use formatting::{FormattingFlags, flags_number, flags_of};
+use formatting::{FormattingFlags, bit, flags_number, flags_of};
 
 fn kind_of(n: u32) -> Kind
     ensures { result ≡ kind_of n }
@@ -75,7 +75,7 @@ pub(crate) fn is_ready(e: u32) -> bool
     true
 }
 
-// The refusal that a builder of a counting run holds.
+// The refusal that a builder holds.
 pub(crate) fn held_in(e: u32) -> u8
     ensures { result ≡ (builder_of e).held }
 {
@@ -98,30 +98,15 @@ pub(crate) fn margin_in(e: u32) -> u16
     margin as u16
 }
 
-// A number that is a builder without a field, which holds nothing.
-pub(crate) fn new_builder(kind: Kind) -> u32
-    ensures { IsBuilder result (record { kind = kind; has_field = false; held = 0 }) }
+// A number that is a builder.
+pub(crate) fn pack_builder(kind: Kind, has_field: bool, held: u8) -> u32
+    requires { held_of held ≡ held }
+    ensures { entry_of result ≡ builder (record { kind = kind; has_field = has_field; held = held }) }
 {
-    2 * kind_number(kind)
-}
-
-// A builder with a field.
-pub(crate) fn with_field(e: u32) -> u32
-    requires { is_builder e ≡ true }
-    ensures { IsBuilder result (record { kind = (builder_of e).kind; has_field = true; held = (builder_of e).held }) }
-{
-    e - e % 16 + e % 8 + 8
-}
-
-// A builder of a counting run after its pieces answered: it holds the first refusal.
-pub(crate) fn with_held(e: u32, answer: u8) -> u32
-    requires { (is_builder e ≡ true) × (held_of answer ≡ answer) }
-    ensures { IsBuilder result (kept_in true answer (builder_of e)) }
-{
-    if e < 16 {
-        return e + 16 * answer as u32;
-    }
-    e
+    let a = kind_number(kind);
+    let b = bit(has_field) as u32;
+    let h = held as u32;
+    2 * a + 8 * b + 16 * h
 }
 
 // A number that is a sub-formatter.

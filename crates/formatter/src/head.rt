@@ -2,7 +2,7 @@
 ghost use Rattle.std.specs.Prelude.{◌≡◌, List, ℕ, ◌≤◌, length};
 ghost use Rattle.formatting.specs.FlagsAsNumber.{flags_of};
 ghost use Rattle.calls.specs.Model.{start};
-ghost use Rattle.writer_backend.specs.Output.{mode_of, is_counting};
+ghost use Rattle.writer_backend.specs.Output.{mode_of};
 ghost use Rattle.formatter.specs.View.{depth_of, margin_of, view};
 
 use calls::Settings;
@@ -31,14 +31,6 @@ impl Head {
             margin: 0,
             depth: 0,
         }
-    }
-
-    // Whether text is counted.
-    pub fn is_counting(self) -> bool
-        ensures { result ≡ is_counting (mode_of self.mode) }
-    {
-        let mode = self.mode;
-        mode.is_counting()
     }
 
     // The spaces before a field in alternate form.

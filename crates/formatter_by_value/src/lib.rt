@@ -1,6 +1,8 @@
 // The formatter by value, its four builders and its sub-formatters (fmt/formatter.rs): passed by
 // value and handed back by each call, with the buffer lent beside it. A builder is an entry of its
 // stack.
+#![tactic(auto)]
+
 ghost use Rattle.std.specs.Prelude.{◌≡◌, List, [], ℕ, pos};
 ghost use Rattle.calls.specs.declared.Kind.TheVariants.{Struct, Tuple, Set};
 ghost use Rattle.calls.specs.declared.Kind.TheVariants as kind;

@@ -1,5 +1,7 @@
 // The methods of a formatter by value, in counting and in writing. A case is a line of standard
 // input: README.md has the form of the lines and what each prints.
+#![tactic(auto)]
+
 mod integers;
 mod play;
 mod print;

@@ -1,4 +1,6 @@
 // How numbers and quoted text are formatted (formatting.rs).
+#![tactic(auto)]
+
 mod escaping;
 mod flags;
 mod flags_as_number;

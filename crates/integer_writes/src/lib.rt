@@ -1,4 +1,6 @@
 // Integers written at a cursor, displayed and by the flags (fmt/str_writer_mut.rs).
+#![tactic(auto)]
+
 mod debug;
 mod display;
 mod number;

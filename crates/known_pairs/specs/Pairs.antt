@@ -1,5 +1,5 @@
 -- Document 01, 'Known pairs (starred ones proved)': what is written, and the bytes that the paper names.
-use Rattle.std.specs.Prelude.{true, ◌≡◌, List, [], ◌∷◌, ◌++◌, ℕ, pos, negsuc, replicate}
+use Rattle.std.specs.Prelude.{true, ◌≡◌, List, [], ◌∷◌, ℕ, pos, negsuc, replicate}
 use Rattle.formatting.specs.declared.flags.FormattingFlags.{FormattingFlags}
 use Rattle.formatting.specs.declared.flags.NumberFormatting.{NumberFormatting}
 use Rattle.formatting.specs.declared.flags.NumberFormatting.TheVariants.{Hexadecimal, Binary}
@@ -60,8 +60,8 @@ pairs =
     ∷ record { text = quoted (1 ∷ []); known = bytes "\"\\x01\"" }
     -- empty list alternate `[]`
     ∷ record { text = defined_text (record { flags = with_alternate default_flags true }) empty_list; known = bytes "[]" }
-    -- the sheet with n 3, overtaken by document 02, ticket 8: `P`, and two bytes as they were
-    ∷ record { text = (written (record { flags = default_flags }) sheet (replicate 3 0) 0).state.output.bytes; known = bytes "P" ++ (0 ∷ 0 ∷ []) }
+    -- the sheet with n 3: the bytes are `Px7`
+    ∷ record { text = (written (record { flags = default_flags }) sheet (replicate 3 0) 0).state.output.bytes; known = bytes "Px7" }
     ∷ []
 
 -- 'Known pairs': each text of a list is its known bytes

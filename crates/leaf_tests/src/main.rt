@@ -1,6 +1,8 @@
 // Characters, escapes, strings, integers and the UTF-8 test on cases from standard input: one line
 // of fields for each case, one line of what the code gives for it. README.md has the forms of the
 // lines.
+#![tactic(auto)]
+
 mod answers;
 mod chars;
 mod escapes;

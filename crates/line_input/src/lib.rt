@@ -1,4 +1,6 @@
 // More of an input, read behind the bytes that are held (document 01, 'The call sheet').
+#![tactic(auto)]
+
 ghost use Rattle.lines.specs.Reading.{More};
 
 use lines::{Reader, shift};

@@ -113,8 +113,8 @@ module _ (s : List ℕ) (n : ℕ) (e : n ≡ index_of 10 s) where
 pub part_none : (b : List ℕ) (from to : ℕ) → to ≤ from → [] ≡ held from to b
 part_none b from to h = let z : to - from ≡ 0 = omega arith in rw z
 
-pub part-past : (b : List ℕ) (from to : ℕ) → length b ≤ from → [] ≡ held from to b
-part-past b from to h = let d : drop from b ≡ [] = drop_of_length-le b {i = from} h in rw d (sym (take-nil (to - from)))
+pub part_past : (b : List ℕ) (from to : ℕ) → length b ≤ from → [] ≡ held from to b
+part_past b from to h = let d : drop from b ≡ [] = drop_of_length-le b {i = from} h in rw d (sym (take-nil (to - from)))
 
 pub part-some : (b : List ℕ) (from to : ℕ) → take (to - from) (take (length b - from) (drop from b)) ≡ held from to b
 part-some b from to = let l = length-drop from b in ap (λ (s : List ℕ). take (to - from) s) (take_all (length b - from) (drop from b) (omega arith))

@@ -1,4 +1,6 @@
 // The lines of an input that is read in pieces into a lent buffer (document 01, 'The call sheet').
+#![tactic(auto)]
+
 ghost use Rattle.std.specs.Prelude.{true, false, ◌≡◌, [], ◌++◌, length, drop};
 ghost use Rattle.lines.specs.Reading.{held, held_of, Skips, Takes, taken_none, taken_last};
 

@@ -1,5 +1,7 @@
 // An integer's sign, absolute value and width (Integer of pargument.rs), and its digits laid in
 // arrays (the to_start_array methods of wrapper_types/pwrapper.rs).
+#![tactic(auto)]
+
 ghost use Rattle.std.specs.Prelude.{◌≡◌, pos};
 ghost use Rattle.pwrapper.specs.Number.{hex_text, bin_text};
 ghost use Rattle.pargument.specs.Integer.{integer_of, integer_display, integer_bits, start_of, array_of};

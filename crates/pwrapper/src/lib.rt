@@ -1,5 +1,7 @@
 // The lengths of integers and of quoted strings (wrapper_types/pwrapper.rs). usize and isize are 64 bits: their
 // callers use the functions of u64 and i64.
+#![tactic(auto)]
+
 mod debug;
 mod display;
 mod quoted;

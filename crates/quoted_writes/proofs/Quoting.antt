@@ -268,8 +268,8 @@ module _ {b₀ : List ℕ} {w : ℕ} {s b : List ℕ} {at i : ℕ} (l : Left b�
       (omega (arith, l.sum), sym (splice-nil b at) ∙ (rw e at l.rest))
 
 -- a byte stored right after a text
-splice_snoc : (b : List ℕ) (at : ℕ) (t : List ℕ) (d : ℕ) → at + length t < length b → set (splice b at t) (at + length t) d ≡ splice b at (t ++ (d ∷ []))
-splice_snoc b at t d h =
+splice-snoc : (b : List ℕ) (at : ℕ) (t : List ℕ) (d : ℕ) → at + length t < length b → set (splice b at t) (at + length t) d ≡ splice b at (t ++ (d ∷ []))
+splice-snoc b at t d h =
     let k : at + length t < length (splice b at t) = rw (length-splice b at t (omega arith)) h in
     rw (splice-one (splice b at t) (at + length t) d k) (splice-splice b at t (d ∷ []) (omega arith))
 
@@ -309,7 +309,7 @@ module _ (b : List ℕ) (at : ℕ) (s : List ℕ) (n : ℕ) (h : at ≤ length b
       let z : x ≡ at + length (34 ∷ escaped s) = omega (arith, sizes) in
       let u : at + length (34 ∷ escaped s) + 1 ≡ suc (at + length (34 ∷ escaped s)) = omega arith in
       let v : suc (at + length (34 ∷ escaped s)) ≡ at + length (quoted s) = omega (arith, quoted-length s) in
-      rw (z, q, splice_snoc b at (34 ∷ escaped s) 34 (omega (arith, quoted-length s)), u, v) (placed-done b at (quoted s) h f)
+      rw (z, q, splice-snoc b at (34 ∷ escaped s) 34 (omega (arith, quoted-length s)), u, v) (placed-done b at (quoted s) h f)
 
 -- where s has room even if each of its bytes takes four, and the first n, which stand for themselves, are copied behind the opening mark
 module _ (b : List ℕ) (at : ℕ) (s : List ℕ) (h : at ≤ length b) (f : 4 * length s + 2 ≤ length b - at) (n : ℕ) (k : n ≤ length s) (e : all_bare (take n s) ≡ true)
@@ -343,7 +343,7 @@ module _ (b : List ℕ) (at : ℕ) (s : List ℕ) (h : at ≤ length b) (f : 4 *
       let z : at + 1 + n ≡ at + length (34 ∷ s) = omega arith in
       let v : at + length (34 ∷ s) + 1 ≡ at + length (34 ∷ s ++ (34 ∷ [])) = rw length-append (omega arith) in
       let y : length (34 ∷ s ++ (34 ∷ [])) ≤ length b - at = rw x at surely in
-      rw x (rw (z, there, t, splice_snoc b at (34 ∷ s) 34 (omega (arith, f)), v) (placed-done b at (34 ∷ s ++ (34 ∷ [])) h y))
+      rw x (rw (z, there, t, splice-snoc b at (34 ∷ s) 34 (omega (arith, f)), v) (placed-done b at (34 ∷ s ++ (34 ∷ [])) h y))
 
   -- not all of them: what is written over them is what is written over the bytes before
   over : placed b' at (quoted s) ≡ placed b at (quoted s)

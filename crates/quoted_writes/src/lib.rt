@@ -1,6 +1,8 @@
 // Quoted strings and quoted ASCII text written at a cursor (fmt/str_writer_mut.rs). Whether a text
 // fits is known before the first byte is touched. Runs of bytes without an escape are found and copied
 // sixteen at a time.
+#![tactic(auto)]
+
 ghost use Rattle.std.specs.Prelude.{true, not, ◌≡◌, ◌+◌, ◌-◌, ◌*◌, ◌≤◌, ◌<◌, leb, length, take, drop};
 ghost use Rattle.error.specs.declared.Answer.TheVariants.{Done};
 ghost use Rattle.formatting.specs.Escape.{escape_of, is_escaped, escape_text, escaped, quoted};

@@ -1,30 +1,28 @@
--- A played list of calls: what it leaves untouched, and the agreement and demand 3 of a run as data.
-use mathlib.Core.Bool.{Bool, true, false, cond}
+-- A played list of calls: a run stays of its mode; and demand 3 of a run as data.
 use mathlib.Core.Option.{Option, none, some}
-use mathlib.Core.Path.{◌≡◌, refl, sym, ap, ◌∙◌}
+use mathlib.Core.Path.{◌≡◌, refl, sym, ap, subst, ◌∙◌}
 use mathlib.Core.Logic.{◌↔◌}
-use mathlib.Core.List.{List, [], ◌∷◌, ◌++◌, map, flatten}
-use Prim.Native.Nat.{ℕ, zero, suc, ◌+◌, ◌-◌, ◌≤◌}
+use mathlib.Core.List.{List, [], ◌∷◌, ◌++◌, map}
+use Prim.Native.Nat.{ℕ, zero, suc, ◌+◌, ◌%◌, ◌≤◌}
 use native.Mathlib.Decide.{dec_le}
 use native.Mathlib.Omega.{arith}
-use lib.Dec.{leb}
 use lib.ListN.{length, take, drop}
 use borrow.Author.Tests.{le-ltb, lt-ltb}
 use Rattle.calls.specs.declared.Settings.{Settings}
 use Rattle.calls.specs.Call.{Call, hold}
-use Rattle.calls.specs.Ledger.{fresh}
-use Rattle.calls.specs.Model.{Mode, number_in, counting, writing, stopped, Output, put_in, State, beyond, step, Run, run, start}
+use Rattle.calls.specs.Model.{Mode, number_in, counting, writing, Output, put_in, State, beyond, step, run, start}
 use Rattle.agreement.specs.Untouched.{OnlyBetween, LeavesRest}
-use Rattle.agreement.specs.Agreement.{sends, packet, AllDone, first_refusal, AllWhole, defined_text, AsCounted}
+use Rattle.agreement.specs.Agreement.{AllDone, AllWhole, defined_text, AsCounted}
 use Rattle.agreement.proofs.Output.{rest-start, put_rest}
 use Rattle.agreement.proofs.Keeping.{On, In, step_keep}
-use Rattle.agreement.proofs.Rest.{rest_untouched, rest-written}
-use Rattle.agreement.proofs.Agree.{agreement}
-use Rattle.agreement.proofs.Demand3.{done_first, first_done, agree}
+use Rattle.agreement.proofs.Rest.{rest-written}
+use Rattle.agreement.proofs.Agree.{done_first, first_done, agree}
 use Rattle.agreement.proofs.Counting.{count_suffices}
+use Rattle.writer_backend.specs.declared.pieces.WriterBackend.{WriterBackend}
+use Rattle.writer_backend.specs.Output.{as_mode, output_of}
 use Rattle.formatter.specs.Calls.{step_or}
 use Rattle.run.specs.declared.Ran.{Ran}
-use Rattle.run.specs.Played.{Played, run_or, ended, played, end_counted, end_written, stored, CountAgrees, WriteAgrees, calls_in, WrittenPieces, WritesAsCounted}
+use Rattle.run.specs.Played.{Played, run_or, ended, played, end_counted, end_written, stored, CountAgrees, WriteAgrees, calls_in, WritesAsCounted}
 
 -- what each piece keeps of the output, each list of words keeps that is played
 module _ (P : Mode → List ℕ → Type 0) (keeps : (m : Mode) (b t : List ℕ) → P m b → On P (put_in m b t).output) where
@@ -36,45 +34,47 @@ module _ (P : Mode → List ℕ → Type 0) (keeps : (m : Mode) (b t : List ℕ)
   play_keep F [] h = h
   play_keep F (c ∷ ds) h = play_keep (step_or F c).state ds (or_keep F c h)
 
--- it leaves the rest of the bytes
-played-rest : (m : Mode) (b : List ℕ) (S : Settings) (ds : List (Option Call)) → On (LeavesRest m b) (run_or (start m b S) ds).state.output
+-- it stays of its mode, and leaves the rest of the bytes
+played-rest : (m : Mode) (b : List ℕ) (S : Settings) (ds : List (Option Call)) → On (LeavesRest m b) (played m b S ds).output
 played-rest m b S ds = play_keep (LeavesRest m b) (put_rest m b) (start m b S) ds (rest-start m b)
+
+-- so the end, as a WriterBackend and bytes, is of the mode that the run started in
+abbrev end_of : Ran → Output → Played
+end_of r d = record { first = r.first; place = r.place; entries = r.entries; output = d }
+
+abbrev end_in : Mode → Ran → List ℕ → Played
+end_in (counting n) r b = end_of r (record { mode = counting r.number; bytes = b })
+end_in (writing p) r b = end_of r (record { mode = writing r.number; bytes = b })
+
+end_same : (m : Mode) (b0 : List ℕ) (r : Ran) (t : ℕ) (b : List ℕ) → LeavesRest m b0 (as_mode t r.number) b → end_in m r b ≡ end_of r (record { mode = as_mode t r.number; bytes = b })
+end_same (counting k) b0 r zero b h = absurd h
+end_same (counting k) b0 r (suc t) b h = refl
+end_same (writing k) b0 r zero b h = refl
+end_same (writing k) b0 r (suc t) b h = absurd h
+
+pub end_in_lem : (m : Mode) (b0 : List ℕ) (S : Settings) (ds : List (Option Call)) (r : Ran) (w : WriterBackend) (b : List ℕ)
+    → r.number ≡ w.number → end_of r (output_of w b) ≡ played m b0 S ds → end_in m r b ≡ played m b0 S ds
+end_in_lem m b0 S ds r w b e q =
+    end_same m b0 r (w.mode % 2) b (rw e (subst (λ (x : Played). On (LeavesRest m b0) x.output) (sym q) (played-rest m b0 S ds))) ∙ rw e q
 
 none_left : {A : Type 0} (s : List A) → length s ≡ 0 → s ≡ []
 none_left [] e = refl
 none_left (x ∷ s) e = absurd (omega arith)
 
--- the end and the answers of a run in the mode that it was started in; a counting one has no bytes
-module _ (m : Mode) (S : Settings) (ds : List (Option Call)) (r : Ran) (l l' : List ℕ) {k : Mode} (e : m ≡ k) where
-  pub counted : (b : List ℕ) → length b ≡ 0 → end_written r b ≡ played m [] S ds → l' ≡ stored l (run_or (start m [] S) ds).answers
-      → (end_counted r ≡ played k [] S ds) × (l' ≡ stored l (run_or (start k [] S) ds).answers)
-  counted b z q a = (rw (e, none_left b z) at q, rw e at a)
+-- the end and the answers of a counting run, which has no bytes, and of a writing one
+module _ (m : Mode) (n : ℕ) (S : Settings) (ds : List (Option Call)) (r : Ran) (l l' : List ℕ) where
+  pub counted : (b : List ℕ) → m ≡ counting n → length b ≡ 0 → end_in m r b ≡ played m [] S ds → l' ≡ stored l (run_or (start m [] S) ds).answers
+      → (end_counted r ≡ played (counting n) [] S ds) × (l' ≡ stored l (run_or (start (counting n) [] S) ds).answers)
+  counted b e z q a = (rw (e, none_left b z) at q, rw e at a)
 
-  pub written : (b0 b : List ℕ) → end_written r b ≡ played m b0 S ds → l' ≡ stored l (run_or (start m b0 S) ds).answers
-      → (end_written r b ≡ played k b0 S ds) × (l' ≡ stored l (run_or (start k b0 S) ds).answers)
-  written b0 b q a = (rw e at q, rw e at a)
+  pub written : (b0 b : List ℕ) → m ≡ writing n → end_in m r b ≡ played m b0 S ds → l' ≡ stored l (run_or (start m b0 S) ds).answers
+      → (end_written r b ≡ played (writing n) b0 S ds) × (l' ≡ stored l (run_or (start (writing n) b0 S) ds).answers)
+  written b0 b e q a = (rw e at q, rw e at a)
 
 -- a list in which each is a call plays as the model runs it
 play_run : (F : State) (cs : List Call) → run_or F (map some cs) ≡ run F cs
 play_run F [] = refl
 play_run F (c ∷ cs) = rw (play_run (step F c).state cs)
-
--- what is no call changes nothing
-play_calls : (F : State) (ds : List (Option Call)) → (run_or F ds).state ≡ (run F (calls_in ds)).state
-play_calls F [] = refl
-play_calls F (some c ∷ ds) = play_calls (step F c).state ds
-play_calls F (none ∷ ds) = play_calls F ds
-
--- a counting run counts to its end
-counts_on : {c : ℕ} (m : Mode) (b : List ℕ) → LeavesRest (counting 0) [] m b → number_in m ≡ c → m ≡ counting c
-counts_on (counting n) b h e = ap counting e
-counts_on (writing p) b h e = absurd h
-counts_on (stopped p) b h e = absurd h
-
--- a run that has stopped has its cursor where one that writes on has it
-either_number : (t : Bool) (n : ℕ) → number_in (cond t (writing n) (stopped n)) ≡ n
-either_number true n = refl
-either_number false n = refl
 
 module _ (m : Mode) (b : List ℕ) (S : Settings) (ds : List (Option Call)) (cs : List Call) (s : ds ≡ map some cs) (z : beyond m b ≡ 0) (r : Played) (q : r ≡ played m b S ds) where
   as_run : r ≡ ended 0 (run (start m b S) cs)
@@ -99,7 +99,7 @@ module _ (S : Settings) (ds : List (Option Call)) where
       let C = (agree S cs P h).0 [] in
       let e = as_run (counting 0) [] S ds cs s refl _ q in (
         ap (λ (x : Played). x.first) e ∙ done_first (run (start (counting 0) [] S) cs).answers C.done,
-        ap (λ (x : Played). x.number) e ∙ ap (λ (d : Output). number_in d.mode) C.output,
+        ap (λ (x : Played). number_in x.output.mode) e ∙ ap (λ (d : Output). number_in d.mode) C.output,
       )
 
   module _ (b : List ℕ) (p : ℕ) (r : Ran) (b' : List ℕ) (q : end_written r b' ≡ played (writing p) b S ds) where
@@ -108,33 +108,18 @@ module _ (S : Settings) (ds : List (Option Call)) where
         let W = (agree S cs P h).1 b p k in
         let e = as_run (writing p) b S ds cs s (rw (le-ltb (length b) p k)) _ q in
         let i = ap (λ (x : Played). x.first) e in
+        let d = ap (λ (x : Played). x.output) e in
         let A = (run (start (writing p) b S) cs).answers in
         record {
           exactly = (λ z. W.exactly.0 (first_done A (sym i ∙ z)), λ z. i ∙ done_first A (W.exactly.1 z));
-          leaves = λ z. (ap (λ (x : Played). x.number) e ∙ ap number_in (W.cursor z), ap (λ (x : Played). x.bytes) e ∙ W.bytes z);
+          leaves = λ z. (ap (λ (x : Output). number_in x.mode) d ∙ ap number_in (W.cursor z), ap (λ (x : Output). x.bytes) d ∙ W.bytes z);
           refused = λ z. i ∙ W.refused z;
-          before = ap (λ (x : Played). take p x.bytes) e ∙ W.before;
-          size = ap (λ (x : Played). length x.bytes) e ∙ W.size;
+          before = ap (λ (x : Output). take p x.bytes) d ∙ W.before;
+          size = ap (λ (x : Output). length x.bytes) d ∙ W.size;
         }
 
     pub write-rest : OnlyBetween b p b' r.number
-    write-rest =
-        let o = (run_or (start (writing p) b S) ds).state.output in
-        let h = rest-written p b o.mode o.bytes (played-rest (writing p) b S ds) in
-        rw (ap (λ (x : Played). x.number) q, ap (λ (x : Played). x.bytes) q) h
-
-    pub write-pieces : p ≤ length b → WrittenPieces S ds b p r.first r.number b'
-    unfolding packet
-    write-pieces k =
-        let A = (agreement S (calls_in ds)).writes b p k in
-        let s = play_calls (start (writing p) b S) ds in
-        let o = ap (λ (x : Run). x.state.output) A in
-        let n = ap (λ (x : Played). x.number) q ∙ ap (λ (x : State). number_in x.output.mode) s ∙ ap (λ (x : Output). number_in x.mode) o in
-        record {
-          answers = λ cs t. ap (λ (x : Played). x.first) (as_run (writing p) b S ds cs t (rw (le-ltb (length b) p k)) _ q) ∙ ap (λ (x : Run). first_refusal x.answers) ((agreement S cs).writes b p k);
-          behind = n ∙ either_number (leb (length (flatten (sends (fresh S) (calls_in ds)).pieces)) (length b - p)) _;
-          bytes = ap (λ (x : Played). x.bytes) q ∙ ap (λ (x : State). x.output.bytes) s ∙ ap (λ (x : Output). x.bytes) o;
-        }
+    write-rest = rest-written p b (writing r.number) b' (subst (λ (x : Played). On (LeavesRest (writing p) b) x.output) (sym q) (played-rest (writing p) b S ds))
 
     pub writes_as_counted : WritesAsCounted (played (counting 0) [] S ds) S ds b p r.first r.number b'
     writes_as_counted c C = go (dec_le p (length b))
@@ -155,7 +140,7 @@ module _ (S : Settings) (ds : List (Option Call)) where
         Q =
             count_suffices S cs c
             (first_done (run F cs).answers (sym (ap (λ (x : Played). x.first) e) ∙ C.done))
-            (counts_on (run F cs).state.output.mode (run F cs).state.output.bytes (rest_untouched F cs) (sym (ap (λ (x : Played). x.number) e) ∙ C.total))
+            (sym (ap (λ (x : Played). x.output.mode) e) ∙ C.total)
             (none_left (run F cs).state.stack (sym (ap (λ (x : Played). x.entries) e) ∙ C.closed))
 
         go : Dec (p ≤ length b)
@@ -164,10 +149,11 @@ module _ (S : Settings) (ds : List (Option Call)) where
             let W = Q.1 b p k in
             let w = as_run (writing p) b S ds cs s (rw (le-ltb (length b) p k)) _ q in
             let i = ap (λ (x : Played). x.first) w in
+            let d = ap (λ (x : Played). x.output) w in
             let A = (run (start (writing p) b S) cs).answers in (
               Q.0,
               (λ z. W.exactly.0 (first_done A (sym i ∙ z)), λ z. i ∙ done_first A (W.exactly.1 z)),
-              λ z. let o = W.output (first_done A (sym i ∙ z)) in (ap (λ (x : Played). x.number) w ∙ ap (λ (x : Output). number_in x.mode) o, ap (λ (x : Played). x.bytes) w ∙ ap (λ (x : Output). x.bytes) o),
+              λ z. let o = d ∙ W.output (first_done A (sym i ∙ z)) in (ap (λ (x : Output). number_in x.mode) o, ap (λ (x : Output). x.bytes) o),
             )
         go (no k) =
             let i : r.first ≡ 9 = ap (λ (x : Played). x.first) q ∙ rw (lt-ltb (length b) p (omega arith)) in

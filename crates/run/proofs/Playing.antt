@@ -10,7 +10,7 @@ use lib.ListN.{length, drop, get_or, set}
 use lib.Seq.{drop-cons}
 use Rattle.calls.specs.declared.Settings.{Settings}
 use Rattle.calls.specs.Call.{Call, hold}
-use Rattle.calls.specs.Model.{Mode, number_in, State, Out, Run, start, beyond}
+use Rattle.calls.specs.Model.{Mode, State, Out, Run, start, beyond}
 use Rattle.agreement.specs.Agreement.{first_refusal}
 use Rattle.formatter.specs.Calls.{step_or}
 use Rattle.encoded_call.specs.Encoding.{call_at, decode}
@@ -120,21 +120,21 @@ play_next a p k l F c cs o a' p' l' eo ea ep el =
     (rest-next a p k o.answer l (run_or o.state cs) ∙ ap (λ (u : Out). rest a p k l (record { answers = u.answer ∷ (run_or u.state cs).answers; state = (run_or u.state cs).state })) eo)
 
 -- where the cursor is past the bytes, each call is refused
-past-place : (F : State) (cs : List (Option Call)) (e : ℕ) → e ≡ beyond F.output.mode F.output.bytes → place_from e 0 0 (run_or F cs).answers ≡ refused_at (run_or F cs).answers
-past-place F cs zero q = zero-add _
-past-place F [] (suc e) q = refl
-past-place F (some c ∷ cs) (suc e) q = rw (← q)
-past-place F (none ∷ cs) (suc e) q = rw (← q)
+past_place : (F : State) (cs : List (Option Call)) (e : ℕ) → e ≡ beyond F.output.mode F.output.bytes → place_from e 0 0 (run_or F cs).answers ≡ refused_at (run_or F cs).answers
+past_place F cs zero q = zero-add _
+past_place F [] (suc e) q = refl
+past_place F (some c ∷ cs) (suc e) q = rw (← q)
+past_place F (none ∷ cs) (suc e) q = rw (← q)
 
 -- nothing left: the end of the run
 module _ (m : Mode) (b : List ℕ) (S : Settings) (ds : List (Option Call)) (l : List ℕ) (G : State) (e : ℕ) (q : G ≡ start m b S) (eq : e ≡ beyond m b) where
-  pub play_end : (a p k : ℕ) (t : List ℕ) (F : State) (n o c : ℕ) → n ≡ place_or a k p → o ≡ length F.stack → number_in F.output.mode ≡ c
+  pub play_end : (a p k : ℕ) (t : List ℕ) (F : State) (n o : ℕ) → n ≡ place_or a k p → o ≡ length F.stack
       → rest a p k t (record { answers = []; state = F }) ≡ rest e 0 0 l (run_or G ds)
-      → (◌≡◌ {A = Played} (record { first = a; place = n; entries = o; number = c; bytes = F.output.bytes }) (played m b S ds)) × (t ≡ stored l (run_or (start m b S) ds).answers)
-  play_end a p k t F n o c en eo ec i =
+      → (◌≡◌ {A = Played} (record { first = a; place = n; entries = o; output = F.output }) (played m b S ds)) × (t ≡ stored l (run_or (start m b S) ds).answers)
+  play_end a p k t F n o en eo i =
       let j : rest a p k t (record { answers = []; state = F }) ≡ rest (beyond m b) 0 0 l (run_or (start m b S) ds) = rw (← q, ← eq) i in
       let R = run_or (start m b S) ds in
       let h : a ≡ hold (beyond m b) (first_refusal R.answers) = sym (hold-done a) ∙ ap (λ (r : Rest). r.first) j in
-      let u : n ≡ refused_at R.answers = en ∙ sym (place_end a k p) ∙ ap (λ (r : Rest). r.place) j ∙ past-place (start m b S) ds (beyond m b) refl in
+      let u : n ≡ refused_at R.answers = en ∙ sym (place_end a k p) ∙ ap (λ (r : Rest). r.place) j ∙ past_place (start m b S) ds (beyond m b) refl in
       let v : F ≡ R.state = ap (λ (r : Rest). r.state) j in
-      (rw (h, u, eo, ← ec, v), sym (stored-end k t) ∙ ap (λ (r : Rest). r.answers) j)
+      (rw (h, u, eo, v), sym (stored-end k t) ∙ ap (λ (r : Rest). r.answers) j)

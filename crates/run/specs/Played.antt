@@ -1,14 +1,12 @@
 -- What a list of calls gives when it is played whole, and demand 3 of a run as data.
 use Rattle.std.proofs.Math.Option.{Option, none, some}
-use Rattle.std.specs.Prelude.{◌≡◌, ◌↔◌, ℕ, zero, suc, ◌+◌, ◌-◌, ◌≤◌, ◌<◌, length, take, drop}
-use mathlib.Core.List.{List, [], ◌∷◌, ◌++◌, map, flatten}
+use Rattle.std.specs.Prelude.{◌≡◌, ◌↔◌, List, [], ◌∷◌, ◌++◌, map, ℕ, zero, suc, ◌+◌, ◌≤◌, ◌<◌, length, take, drop}
 use Rattle.error.specs.declared.Answer.TheVariants.{Done, NotEnoughSpace}
 use Rattle.error.specs.Answer.{number_of}
 use Rattle.calls.specs.declared.Settings.{Settings}
 use Rattle.calls.specs.Call.{Call, hold}
-use Rattle.calls.specs.Ledger.{fresh}
-use Rattle.calls.specs.Model.{Mode, number_in, State, Run, start, beyond, most}
-use Rattle.agreement.specs.Agreement.{sends, answers_in, fitting, first_refusal, AllWhole, Proper, defined_text}
+use Rattle.calls.specs.Model.{Mode, counting, writing, Output, State, Run, start, beyond, most}
+use Rattle.agreement.specs.Agreement.{first_refusal, AllWhole, Proper, defined_text}
 use Rattle.formatter.specs.Calls.{step_or}
 use Rattle.run.specs.declared.Ran.{Ran}
 
@@ -26,36 +24,32 @@ refused_at [] = 0
 refused_at (zero ∷ r) = suc (refused_at r)
 refused_at (suc a ∷ r) = 0
 
--- docs/DECISIONS.md, 'The formatter': the end of a run: its first refusal, the place of that call, how many entries are open, the total or cursor, and the bytes
+-- docs/DECISIONS.md, 'The formatter': the end of a run: its first refusal, the place of that call, how many entries are open, and the output
 pub record Played : Type 0 where
   pub first : ℕ
   pub place : ℕ
   pub entries : ℕ
-  pub number : ℕ
-  pub bytes : List ℕ
+  pub output : Output
 
 -- docs/DECISIONS.md, 'The formatter': the end of a run that meets e before its first call
 abbrev pub ended : ℕ → Run → Played
-ended e r =
-    record {
-      first = hold e (first_refusal r.answers);
-      place = refused_at r.answers;
-      entries = length r.state.stack;
-      number = number_in r.state.output.mode;
-      bytes = r.state.output.bytes;
-    }
+ended e r = record { first = hold e (first_refusal r.answers); place = refused_at r.answers; entries = length r.state.stack; output = r.state.output }
 
 -- Document 01, 'A nested record': a fresh run; 9 before all, also of no calls
 abbrev pub played : Mode → List ℕ → Settings → List (Option Call) → Played
 played m b S ds = ended (beyond m b) (run_or (start m b S) ds)
 
--- docs/DECISIONS.md, 'The formatter': the end of a writing run that a Ran is, with the bytes as they then are
-abbrev pub end_written : Ran → List ℕ → Played
-end_written r b = record { first = r.first; place = r.place; entries = r.entries; number = r.number; bytes = b }
+-- docs/DECISIONS.md, 'The formatter': the end that a Ran is, with the mode and the bytes as they then are
+abbrev end_of : Ran → Mode → List ℕ → Played
+end_of r m b = record { first = r.first; place = r.place; entries = r.entries; output = record { mode = m; bytes = b } }
 
--- docs/DECISIONS.md, 'The formatter': of a counting run, which has none
+-- docs/DECISIONS.md, 'The formatter': of a counting run
 abbrev pub end_counted : Ran → Played
-end_counted r = end_written r []
+end_counted r = end_of r (counting r.number) []
+
+-- docs/DECISIONS.md, 'The formatter': of a writing run
+abbrev pub end_written : Ran → List ℕ → Played
+end_written r b = end_of r (writing r.number) b
 
 -- docs/DECISIONS.md, 'The formatter': the answers of a run, laid in lent places as far as there is room
 abbrev pub stored : List ℕ → List ℕ → List ℕ
@@ -83,27 +77,17 @@ WriteAgrees S ds b p first cursor b' =
     (cs : List Call) → ds ≡ map some cs → Proper S cs → length (defined_text S cs) ≤ most → p ≤ length b →
     WrittenAs (defined_text S cs) b p first cursor b'
 
--- the calls of a run as data
+-- what a sender relies on: counting answered 0 with a total of c and left nothing open
+pub record CountedAs (e : Played) (c : ℕ) : Type 0 where
+  pub done : e.first ≡ number_of Done
+  pub total : e.output.mode ≡ counting c
+  pub closed : e.entries ≡ 0
+
+-- what a sender relies on: the calls of a run as data
 abbrev pub calls_in : List (Option Call) → List Call
 calls_in [] = []
 calls_in (none ∷ ds) = calls_in ds
 calls_in (some c ∷ ds) = c ∷ calls_in ds
-
--- the agreement: of what a run writes, the pieces that fit in n bytes
-abbrev pub text_fitting : Settings → List (Option Call) → ℕ → List ℕ
-text_fitting S ds n = flatten (fitting n (sends (fresh S) (calls_in ds)).pieces)
-
--- the agreement, writing from p into b: where each is a call, the first refusal is that of the answers that are judged, else 0 or 1 by whether the text so far fits; whatever the calls, just the pieces that fit stand behind p, and the cursor is behind them
-pub record WrittenPieces (S : Settings) (ds : List (Option Call)) (b : List ℕ) (p first cursor : ℕ) (b' : List ℕ) : Type 0 where
-  pub answers : (cs : List Call) → ds ≡ map some cs → first ≡ first_refusal (answers_in (length b - p) (fresh S) cs)
-  pub behind : cursor ≡ p + length (text_fitting S ds (length b - p))
-  pub bytes : b' ≡ take p b ++ text_fitting S ds (length b - p) ++ drop (p + length (text_fitting S ds (length b - p))) b
-
--- what a sender relies on: counting answered 0 with a total of c and left nothing open
-pub record CountedAs (e : Played) (c : ℕ) : Type 0 where
-  pub done : e.first ≡ number_of Done
-  pub total : e.number ≡ c
-  pub closed : e.entries ≡ 0
 
 -- what a sender relies on: where counting ended as e, so with a total of c, the defined text has c bytes; writing from p into b answers 0 exactly if they are free and no string is cut inside a character; and then the defined text stands there, and the cursor past it
 abbrev pub WritesAsCounted : Played → Settings → List (Option Call) → List ℕ → ℕ → ℕ → ℕ → List ℕ → Type 0

@@ -1,12 +1,14 @@
 // Runs as data: a list of calls as numbers over a pool of texts, counted or written whole. The stack
 // of open entries is a local array that is lent to the calls.
-ghost use Rattle.std.specs.Prelude.{◌≡◌, [], ◌≤◌, length, set};
+#![tactic(auto)]
+
+ghost use Rattle.std.specs.Prelude.{◌≡◌, [], set};
 ghost use Rattle.agreement.specs.Untouched.{OnlyBetween};
 ghost use Rattle.calls.specs.Call.{hold};
 ghost use Rattle.calls.specs.Model.{start, counting, writing};
-ghost use Rattle.writer_backend.specs.Output.{mode_of};
+ghost use Rattle.writer_backend.specs.Output.{output_of, mode_of};
 ghost use Rattle.encoded_call.specs.Encoding.{decode};
-ghost use Rattle.run.specs.Played.{run_or, played, end_counted, end_written, stored, CountAgrees, WriteAgrees, WrittenPieces, WritesAsCounted};
+ghost use Rattle.run.specs.Played.{run_or, played, end_counted, end_written, stored, CountAgrees, WriteAgrees, WritesAsCounted};
 ghost use Rattle.run.specs.Noting.{noted, place_or};
 
 use calls::Settings;
@@ -25,11 +27,11 @@ pub struct Ran {
     pub entries: usize,
 }
 
-// The total or cursor, and how many entries are open.
+// Where the text went, and how many entries are open.
 #[derive(Drop)]
 struct End {
     entries: usize,
-    number: usize,
+    mode: WriterBackend,
 }
 
 // Notes an answer with the place of its call, if it is the first refusal.
@@ -77,7 +79,7 @@ fn play(
     first: &mut u8,
     place: &mut usize,
 ) -> End
-    ensures buf_after { record { first = first.exit.now; place = place.new; entries = result.entries; number = result.number; bytes = buf.new }
+    ensures buf_after { record { first = first.exit.now; place = place.new; entries = result.entries; output = output_of result.mode buf.new }
         ≡ played (mode_of mode) buf.old settings (decode calls.now text.now) }
     ensures answers_after { answers.new
         ≡ stored answers.old (run_or (start (mode_of mode) buf.old settings) (decode calls.now text.now)).answers }
@@ -108,7 +110,7 @@ fn play(
     let end = head.mode;
     End {
         entries: head.open_entries(),
-        number: end.number,
+        mode: end,
     }
 }
 
@@ -138,9 +140,10 @@ fn count_each_from(
         &mut first,
         &mut place,
     );
+    let after = end.mode;
     Ran {
         first,
-        number: end.number,
+        number: after.number,
         place,
         entries: end.entries,
     }
@@ -190,8 +193,6 @@ pub fn write_run_each(
     ensures write_agrees { WriteAgrees settings (decode calls.now text.now) buf.old at result.first result.number buf.new }
     ensures writes_as_counted { WritesAsCounted (played (counting 0) [] settings (decode calls.now text.now)) settings
         (decode calls.now text.now) buf.old at result.first result.number buf.new }
-    ensures written_pieces { at ≤ length buf.old → WrittenPieces settings (decode calls.now text.now)
-        buf.old at result.first result.number buf.new }
     ensures only_between { OnlyBetween buf.old at buf.new result.number }
 {
     let mut first = 0u8;
@@ -206,9 +207,10 @@ pub fn write_run_each(
         &mut first,
         &mut place,
     );
+    let after = end.mode;
     Ran {
         first,
-        number: end.number,
+        number: after.number,
         place,
         entries: end.entries,
     }
@@ -221,8 +223,6 @@ pub fn write_run(settings: Settings, buf: &mut [u8], at: usize, calls: &[u64], t
     ensures write_agrees { WriteAgrees settings (decode calls.now text.now) buf.old at result.first result.number buf.new }
     ensures writes_as_counted { WritesAsCounted (played (counting 0) [] settings (decode calls.now text.now)) settings
         (decode calls.now text.now) buf.old at result.first result.number buf.new }
-    ensures written_pieces { at ≤ length buf.old → WrittenPieces settings (decode calls.now text.now)
-        buf.old at result.first result.number buf.new }
     ensures only_between { OnlyBetween buf.old at buf.new result.number }
 {
     let mut none = [0u8; 0];

@@ -1,5 +1,7 @@
 // Runs of calls, counted and written. A case is a line of standard input: README.md has the forms of
 // the lines and what each prints.
+#![tactic(auto)]
+
 mod line;
 mod print;
 

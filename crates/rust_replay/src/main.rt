@@ -1,5 +1,7 @@
 // Replays runs with the answers that const_format 0.2.37 gave, one to a line of standard input, and
 // prints the number of each line that differs. README.md says what stands on a line.
+#![tactic(auto)]
+
 mod line;
 
 use fields::put_number;

@@ -12,12 +12,11 @@ use lib.Seq.{take_at}
 use borrow.Author.Tests.{ltb-false}
 use Rattle.formatting.specs.declared.flags.FormattingFlags.{FormattingFlags}
 use Rattle.calls.specs.Call.{Call}
-use Rattle.calls.specs.Model.{number_in, Output, step, Run, run}
+use Rattle.calls.specs.Model.{number_in, Output, step, run}
 use Rattle.agreement.specs.Untouched.{OnlyBetween}
 use Rattle.agreement.specs.Agreement.{AllDone, defined_text, Counted, Written}
 use Rattle.agreement.proofs.Rest.{rest_untouched, rest-written}
-use Rattle.agreement.proofs.Agree.{agreement}
-use Rattle.agreement.proofs.Demand3.{agree}
+use Rattle.agreement.proofs.Agree.{agree}
 use Rattle.formatting.specs.Bytes.{bytes}
 use Rattle.fields.specs.Fields.{same, fields}
 use Rattle.fields.specs.Decimal.{decimal_of, up_to}
@@ -28,7 +27,7 @@ use Rattle.sheet_line.specs.Begin.{flag_fields, sized, size_fields, begin_fields
 use Rattle.sheet_line.specs.Line.{call_of_line}
 use Rattle.sheet.specs.Sheet.{Sheet, fresh_sheet, end_text}
 use Rattle.sheet.specs.Printed.{printed_from, printed}
-use Rattle.sheet.specs.SheetAgreement.{rows_from, sheet_after, rows_text, AllZero, counting_answers, writing_answers, sheet_rows, SheetAgrees, SheetRest, SheetStops}
+use Rattle.sheet.specs.SheetAgreement.{rows_from, sheet_after, rows_text, AllZero, counting_answers, writing_answers, sheet_rows, SheetAgrees, SheetRest}
 
 -- a run that begins has its cursor in the buffer
 module _ (n p : ℕ) (f : FormattingFlags) where
@@ -168,12 +167,3 @@ sheet-rest n p S cs = rw (after-written both cs) (rest, rest.behind ∙ drop_zer
 
     rest : OnlyBetween (replicate n 0) p W.bytes (number_in W.mode)
     rest = rest-written p (replicate n 0) W.mode W.bytes (rest_untouched both.written cs)
-
-pub sheet-stops : SheetStops
-sheet-stops input n p S cs O =
-    let both = fresh_sheet (replicate n 0) p S in
-    let size : length (replicate {A = ℕ} n 0) ≡ n = length-replicate n 0 in
-    let A = (agreement S cs).writes (replicate n 0) p (omega (arith, size, begin-within n p S.flags O.first O.begins)) in (
-      writing-rows 2 both cs ∙ ap (λ (r : Run). r.answers) A ∙ rw size,
-      rw (after-written both cs) (ap (λ (r : Run). r.state.output) A),
-    )

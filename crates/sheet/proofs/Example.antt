@@ -25,15 +25,6 @@ pub shown : printed input ≡ bytes "2,0,1,0,1\n3,0,7,0,7\n4,0,8,0,8\n5,0,10,0,1
 unfolding text_of input_fault cut_fault placed continues follow digit_text digits digits_in same fields read_from is_shortest is_hex hex_bytes hex_pairs format_of digits_of layout_of begin_of type_of one_field two_fields open_named three_fields call_of_line row_text end_line lines_of
 shown = refl
 
--- document 02, ticket 8: with 3 bytes the line stops behind `P`, and answers 1 from the field on; with 9 it stops before the closing
-pub stops-at-3 : printed (bytes "begin,3,0,dec,upper,plain\nopen,struct,50\nfield,78\nnum,u8,7\nfinish\n") ≡ bytes "2,0,1,0,1\n3,0,7,1,1\n4,0,8,1,1\n5,0,10,1,1\nend,10,1,50\n"
-unfolding text_of input_fault cut_fault placed continues follow digit_text digits digits_in same fields read_from is_shortest is_hex hex_bytes hex_pairs format_of digits_of layout_of begin_of type_of one_field two_fields open_named three_fields call_of_line row_text end_line lines_of
-stops-at-3 = refl
-
-pub stops-at-9 : printed (bytes "begin,9,0,dec,upper,plain\nopen,struct,50\nfield,78\nnum,u8,7\nfinish\n") ≡ bytes "2,0,1,0,1\n3,0,7,0,7\n4,0,8,0,8\n5,0,10,1,8\nend,10,8,50207B20783A2037\n"
-unfolding text_of input_fault cut_fault placed continues follow digit_text digits digits_in same fields read_from is_shortest is_hex hex_bytes hex_pairs format_of digits_of layout_of begin_of type_of one_field two_fields open_named three_fields call_of_line row_text end_line lines_of
-stops-at-9 = refl
-
 pub is-sheet : SheetOf input 16 0 plain sheet
 unfolding same fields read_from is_shortest is_hex hex_bytes format_of digits_of layout_of begin_of type_of one_field two_fields open_named three_fields call_of_line lines_of
 is-sheet = record { first = bytes "begin,16,0,dec,upper,plain"; later = bytes "open,struct,50" ∷ bytes "field,78" ∷ bytes "num,u8,7" ∷ bytes "finish" ∷ []; lines = refl; begins = refl; calls = refl }

@@ -3,20 +3,29 @@ use mathlib.Core.Bool.{true, false}
 use mathlib.Core.Option.{Option, none, some}
 use mathlib.Core.Path.{◌≡◌, refl}
 use mathlib.Core.List.{List, [], ◌∷◌}
-use Prim.Native.Nat.{ℕ, ◌≤◌}
+use Prim.Native.Nat.{ℕ, zero, suc, ◌%◌, ◌≤◌}
 use native.Mathlib.Omega.{arith}
 use lib.ListN.{length}
 use Rattle.calls.specs.Call.{Call}
-use Rattle.calls.specs.Model.{step}
+use Rattle.calls.specs.Model.{number_in, step}
 use Rattle.str_writer.specs.declared.piece.Written.{Written}
 use Rattle.str_writer.specs.Write.{outcome, put}
-use Rattle.writer_backend.proofs.Output.{number_in_lem}
+use Rattle.writer_backend.specs.declared.pieces.WriterBackend.{WriterBackend}
+use Rattle.writer_backend.specs.Output.{as_mode, mode_of}
 use Rattle.formatter.specs.declared.head.HeadStep.{HeadStep}
 use Rattle.formatter.specs.View.{view, view_out}
 use Rattle.formatter.specs.Calls.{step_or}
 use Rattle.sheet.specs.declared.Sheet as code
 use Rattle.sheet.specs.Sheet.{Sheet, row_text, bad_text, stepped}
 use Rattle.sheet.specs.SheetView.{sheet_of, is_some, Step, stepped_of, stepping, LineAnswer, answering}
+
+number_of : (t n : ℕ) → number_in (as_mode t n) ≡ n
+number_of zero n = refl
+number_of (suc t) n = refl
+
+-- the number of a mode is its total or cursor
+pub number_in_lem : (m : WriterBackend) → number_in (mode_of m) ≡ m.number
+number_in_lem m = number_of (m.mode % 2) m.number
 
 pub empty : (l : List ℕ) → length l ≡ 0 → l ≡ []
 empty [] h = refl

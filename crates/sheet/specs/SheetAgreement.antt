@@ -5,10 +5,9 @@ use Rattle.error.specs.declared.Answer.TheVariants.{NotEnoughSpace}
 use Rattle.error.specs.Answer.{number_of}
 use Rattle.calls.specs.declared.Settings.{Settings}
 use Rattle.calls.specs.Call.{Call}
-use Rattle.calls.specs.Ledger.{fresh}
 use Rattle.calls.specs.Model.{number_in, step, most}
 use Rattle.agreement.specs.Untouched.{OnlyBetween}
-use Rattle.agreement.specs.Agreement.{sends, answers_in, packet, AllDone, first_refusal, Proper, defined_text}
+use Rattle.agreement.specs.Agreement.{AllDone, first_refusal, Proper, defined_text}
 use Rattle.sheet_line.specs.declared.begin.Begin.TheVariants.{Fresh}
 use Rattle.sheet_line.specs.Begin.{begin_of}
 use Rattle.sheet_line.specs.Line.{call_of_line}
@@ -84,10 +83,3 @@ SheetRest =
     (n p : ℕ) (S : Settings) (cs : List Call) →
     let o = (sheet_after (fresh_sheet (replicate n 0) p S) cs).written.output in
     OnlyBetween (replicate n 0) p o.bytes (number_in o.mode) × (drop (number_in o.mode) o.bytes ≡ replicate (n - number_in o.mode) 0)
-
--- document 02, ticket 8 on a sheet without `bad`: whatever its calls, each writing answer is what is judged, else 0 or 1 by whether the text so far fits; just the pieces that fit stand behind p, and the cursor is behind them (proved in proofs/Agrees)
-abbrev pub SheetStops : Type 0
-SheetStops =
-    (input : List ℕ) (n p : ℕ) (S : Settings) (cs : List Call) → SheetOf input n p S cs →
-    (writing_answers (sheet_rows n p S cs) ≡ answers_in (n - p) (fresh S) cs)
-    × ((sheet_after (fresh_sheet (replicate n 0) p S) cs).written.output ≡ packet (replicate n 0) p (sends (fresh S) cs).pieces)

@@ -1,5 +1,7 @@
 // A call sheet line by line: both runs advanced, and what the line prints (document 01, 'The call
 // sheet').
+#![tactic(auto)]
+
 mod print;
 
 ghost use Rattle.std.specs.Prelude.{◌≡◌, List, ℕ, ◌≤◌, length};

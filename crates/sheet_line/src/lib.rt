@@ -1,5 +1,7 @@
 // The lines of a call sheet: how line 1 begins a run, and the call that a later line means
 // (document 01, 'The call sheet').
+#![tactic(auto)]
+
 mod begin;
 mod numbers;
 mod texts;

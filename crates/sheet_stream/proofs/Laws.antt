@@ -107,8 +107,8 @@ module _ (n p : ℕ) (f : FormattingFlags) where
 
 -- the stage that a state is
 module _ (h : State) (c w b : List ℕ) where
-  pub stopped-over : h.going ≡ false → stage_of h c w b ≡ over
-  stopped-over e = rw e
+  pub stopped_over : h.going ≡ false → stage_of h c w b ≡ over
+  stopped_over e = rw e
 
   pub halted_over : (h₀ : State) → h ≡ stopped_of h₀ → stage_of h c w b ≡ over
   halted_over h₀ e = rw e
@@ -122,7 +122,7 @@ module _ (h : State) (c w b : List ℕ) where
   -- the last line
   module _ (out : List ℕ) (at : ℕ) where
     pub end-over : h.going ≡ false → take at out ≡ take at out ++ left (stage_of h c w b) []
-    end-over e = rw (stopped-over e, append-nil (take at out))
+    end-over e = rw (stopped_over e, append-nil (take at out))
 
     pub end-first : h.going ≡ true → h.line ≡ 1 → take at out ≡ take at out ++ left (stage_of h c w b) []
     end-first e f = rw (stage-first e f, append-nil (take at out))
@@ -138,8 +138,8 @@ module _ (h : State) (c w b : List ℕ) where
       end_later e f = let g = end_fits in rw (stage-later e f, ← q) (text-told out at (end_text (sheet_of h.sheet c w s)) v after p (omega arith))
 
 -- a line after the run's end
-pub answers-stopped : (h : State) (c w b : List ℕ) (l out : List ℕ) (at : ℕ) → h.going ≡ false → Answers (stage_of h c w b) (stage_of h c w b) l out out at at
-answers-stopped h c w b l out at e = record { prints = λ ls. rw (stopped-over h c w b e); short = omega arith }
+pub answers_stopped : (h : State) (c w b : List ℕ) (l out : List ℕ) (at : ℕ) → h.going ≡ false → Answers (stage_of h c w b) (stage_of h c w b) l out out at at
+answers_stopped h c w b l out at e = record { prints = λ ls. rw (stopped_over h c w b e); short = omega arith }
 
 -- a line of a run that has begun
 left-next : (t : Bool) (k : ℕ) (S : Sheet) (ls : List (List ℕ)) → left (cond t (later (k + 1) S) over) ls ≡ cond t (printed_from (suc k) S ls) []
@@ -174,5 +174,5 @@ answers-later k n sh c w b c' w' x r l out after at e h q u v =
     let g = stage-next (record { line = k + 1; size = n; sheet = r.sheet; going = r.is_call }) c' w' (put_mid 0 (n - 0) b x) x (λ o. absurd (omega arith)) y in
     rw g (rw z at (answers-line k (sheet_of sh c w (take (n - 0) (drop 0 b))) l out after at r.is_call (sheet_of r.sheet c' w' x) r.print e h v))
 
-pub onward-stopped : (h r : State) (b : List ℕ) → Sized h b → r ≡ stopped_of h → Onward h r
-onward-stopped h r b s e = rw e (record { size = s.size; starts = s.starts; counts = omega arith })
+pub onward_stopped : (h r : State) (b : List ℕ) → Sized h b → r ≡ stopped_of h → Onward h r
+onward_stopped h r b s e = rw e (record { size = s.size; starts = s.starts; counts = omega arith })

@@ -69,8 +69,8 @@ not_due h e = by_cases h.waits h.state.going e
     by_cases false false e = absurd (apart true refl e)
     by_cases false true e = leb-false 32768 h.printed e
 
-pub stays_ready : StaysReady
-stays_ready h r b out b' out' R o n lb lo k =
+pub stays-ready : StaysReady
+stays-ready h r b out b' out' R o n lb lo k =
     let s = R.sized in
     let t : Sized r.state b' = record { size = o.size; lends = omega (arith, s.lends); starts = o.starts; counts = k } in
     (record { sized = t; room = omega (arith, R.room) }, λ e m. let f = not_due r e in record { sized = t; room = omega arith })

@@ -16,7 +16,7 @@ use Rattle.sheet_stream.specs.declared.Stream.{Stream}
 use Rattle.sheet_stream.specs.declared.Told.{Told}
 use Rattle.sheet_stream.specs.Left.{left, stage_of, Answers}
 use Rattle.sheet_stream.specs.Step.{Onward, Ready, stopped_of, halted_of, Stepped, emptied_of, after_write}
-use Rattle.sheet_stream.proofs.Laws.{halted_over, onward-stopped}
+use Rattle.sheet_stream.proofs.Laws.{halted_over, onward_stopped}
 
 pub halts : (h : Stream) (s : State) → s ≡ stopped_of h.state → ◌≡◌ {A = Stream} (record { reader = h.reader; state = s; printed = h.printed; waits = false }) (halted_of h)
 halts h s e = rw e
@@ -66,6 +66,6 @@ module _ (h : Stream) (space c w b out : List ℕ) (R : Ready h b out) (t : Take
     step_end e f s end q g n =
         record {
           steps = end-steps left max_line (stage_of h.state c w b) h.reader t space (take h.printed out) k e f (stage_of s c' w' b') (take end out') (λ ls. rw (halted_over s c' w' b' h.state q)) g;
-          onward = onward-stopped h.state s b R.sized q;
+          onward = onward_stopped h.state s b R.sized q;
           room = n;
         }

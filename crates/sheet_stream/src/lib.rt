@@ -1,6 +1,8 @@
 // A call sheet answered as its input comes, in pieces (document 01, 'The call sheet'): the steps of
 // a program that reads and writes, on the bytes that it lends. What was read is answered before more
 // is awaited.
+#![tactic(auto)]
+
 ghost use Rattle.std.specs.Prelude.{true, false, ◌≡◌, List, [], ◌++◌, ℕ, ◌+◌, ◌≤◌, length, take, replicate};
 ghost use Rattle.lines.specs.Played.{begins};
 ghost use Rattle.sheet_line.specs.Begin.{max_size};

@@ -2,6 +2,8 @@
 // A line with the file's name stands before what its sheet prints. Behind the argument `closed` the
 // sheets are answered on no descriptor, behind `full` on a device that is full, and what is printed
 // is how many bytes of the file were not read.
+#![tactic(auto)]
+
 use fields::{put_number, same};
 use libc::STDOUT_FILENO;
 use line_input::read_more;

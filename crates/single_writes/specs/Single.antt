@@ -4,9 +4,8 @@ use Rattle.formatting.specs.Flags.{default_flags}
 use Rattle.utils.specs.declared.Range.{Range}
 use Rattle.str_writer.specs.declared.piece.Written.{Written}
 use Rattle.str_writer.specs.Value.{Value, whole}
-use Rattle.error.specs.Answer.{number_of}
-use Rattle.str_writer.specs.Write.{Outcome, outcome, write}
-use Rattle.calls.specs.Model.{counting, writing, PieceOutcome, to}
+use Rattle.str_writer.specs.Write.{outcome, write}
+use Rattle.calls.specs.Model.{counting, writing, PieceOutcome, to, wrote}
 use Rattle.value_writes.specs.Values.{value_out}
 use Rattle.single_writes.specs.ByFlags.{by_flags, wrong_flags, from}
 
@@ -22,21 +21,17 @@ between v s start end = v s (record { start = start; end = end })
 abbrev pub gives : ℕ → ℕ → List ℕ → PieceOutcome
 gives r at b = to (writing at) b r
 
--- Document 01, 'The writer': the outcome of a single write; document 02, ticket 8: the writer alone goes on after a refusal
-abbrev pub alone : Outcome → PieceOutcome
-alone o = gives (number_of o.written.answer) o.written.at o.bytes
-
 -- Document 01, 'The writer': a value for which no flags are given, written at a cursor
 abbrev pub writes : List ℕ → ℕ → Value → PieceOutcome
-writes b at v = alone (write default_flags b at v)
+writes b at v = wrote (write default_flags b at v)
 
 -- docs/DECISIONS.md, 'For senders, and the comparison': a value written by flags that are a number
 abbrev pub writes_by : ℕ → List ℕ → ℕ → Value → PieceOutcome
-writes_by n b at v = by_flags n (wrong_flags (writing at) b) (λ f. alone (write f b at v))
+writes_by n b at v = by_flags n (wrong_flags (writing at) b) (λ f. wrote (write f b at v))
 
 -- Document 01, 'The writer': a truncation, which keeps all bytes
 abbrev pub keeps : List ℕ → Written → PieceOutcome
-keeps b w = alone (outcome w b)
+keeps b w = wrote (outcome w b)
 
 -- Document 01, 'A nested record': the answer r, with the total as it then is
 abbrev pub totals : ℕ → ℕ → PieceOutcome

@@ -1,5 +1,7 @@
 // Strings and characters written at a cursor into a lent buffer, and truncate (fmt/str_writer.rs,
 // fmt/str_writer_mut.rs).
+#![tactic(auto)]
+
 mod cursor;
 mod faults;
 mod piece;

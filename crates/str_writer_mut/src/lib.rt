@@ -1,5 +1,7 @@
 // The writer that keeps the lent buffer and the cursor together (fmt/str_writer_mut.rs). Each function
 // takes it apart and calls the function of crate str_writer on the slice and the cursor.
+#![tactic(auto)]
+
 ghost use Rattle.std.specs.Prelude.{◌≡◌};
 ghost use Rattle.formatting.specs.Flags.{default_flags};
 ghost use Rattle.str_writer.specs.Truncate.{truncated, truncated_utf8};

@@ -49,8 +49,8 @@ module _ (n : ℕ) (h : 11 < n) (w t : List ℕ) where
   pub none-counted : (b : List ℕ) (p e k : ℕ) (b' : List ℕ) → WritesAsCounted (count_end n w t) (settings_by n) (decode w t) b p e k b'
   none-counted b p e k b' c C = absurd (omega (arith, rw above at C.done))
 
-  pub write-past : (b : List ℕ) (p : ℕ) → length b < p → end_written (record { first = 9; number = p; place = 0; entries = 0 }) b ≡ write_end n b p w t
-  write-past b p k = rw (above, lt-ltb (length b) p k)
+  pub write_past : (b : List ℕ) (p : ℕ) → length b < p → end_written (record { first = 9; number = p; place = 0; entries = 0 }) b ≡ write_end n b p w t
+  write_past b p k = rw (above, lt-ltb (length b) p k)
 
   pub write-refused : (b : List ℕ) (p : ℕ) → p ≤ length b → end_written (record { first = 8; number = p; place = 0; entries = 0 }) b ≡ write_end n b p w t
   write-refused b p k = rw (above, le-ltb (length b) p k)

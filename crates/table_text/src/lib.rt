@@ -3,11 +3,14 @@
 // document 01's number, 0 for none. Flags are a number below 12: 4 for hexadecimal or 8 for binary,
 // plus 2 for lower digits, plus 1 for alternate; a run with others answers 8, after 9, and plays
 // nothing.
-ghost use Rattle.std.specs.Prelude.{◌≡◌, ◌≤◌, ◌<◌, length};
+#![tactic(auto)]
+
+ghost use Rattle.std.specs.Prelude.{◌≡◌, [], ◌<◌};
 ghost use Rattle.error.specs.Answer.{number_of};
 ghost use Rattle.agreement.specs.Untouched.{OnlyBetween};
+ghost use Rattle.calls.specs.Model.{counting, writing};
 ghost use Rattle.encoded_call.specs.Encoding.{decode};
-ghost use Rattle.run.specs.Played.{end_counted, end_written, stored, CountAgrees, WriteAgrees, WrittenPieces, WritesAsCounted};
+ghost use Rattle.run.specs.Played.{end_counted, end_written, stored, CountAgrees, WriteAgrees, WritesAsCounted};
 ghost use Rattle.table_text.specs.Exported.{settings_by, count_end, count_answers, write_end, write_answers};
 
 use calls::Settings;
@@ -57,8 +60,6 @@ fn write(
         buf.old at result.first result.number buf.new }
     ensures writes_as_counted { WritesAsCounted (count_end flags calls.now text.now) (settings_by flags)
         (decode calls.now text.now) buf.old at result.first result.number buf.new }
-    ensures written_pieces { flags < 12 → at ≤ length buf.old → WrittenPieces (settings_by flags) (decode calls.now text.now)
-        buf.old at result.first result.number buf.new }
     ensures only_between { OnlyBetween buf.old at buf.new result.number }
 {
     if 11 < flags {
@@ -77,7 +78,7 @@ fn write(
 #[unsafe(no_mangle)]
 pub extern "C" fn table_text_count(flags: u64, calls: &[u64], text: &[u8], total: &mut usize) -> u8
     ensures value { result ≡ (count_end flags calls.now text.now).first }
-    ensures total_after { total.new ≡ (count_end flags calls.now text.now).number }
+    ensures bytes_after { record { mode = counting total.new; bytes = [] } ≡ (count_end flags calls.now text.now).output }
     ensures count_agrees { flags < 12 → CountAgrees (settings_by flags) (decode calls.now text.now) result total.new }
 {
     let mut none = [0u8; 0];
@@ -96,14 +97,12 @@ pub extern "C" fn table_text_write(
     text: &[u8],
 ) -> u8
     ensures value { result ≡ (write_end flags buf.old cursor.old calls.now text.now).first }
-    ensures cursor_after { cursor.new ≡ (write_end flags buf.old cursor.old calls.now text.now).number }
-    ensures buf_after { buf.new ≡ (write_end flags buf.old cursor.old calls.now text.now).bytes }
+    ensures buf_after { record { mode = writing cursor.new; bytes = buf.new }
+        ≡ (write_end flags buf.old cursor.old calls.now text.now).output }
     ensures write_agrees { flags < 12 → WriteAgrees (settings_by flags) (decode calls.now text.now)
         buf.old cursor.old result cursor.new buf.new }
     ensures writes_as_counted { WritesAsCounted (count_end flags calls.now text.now) (settings_by flags)
         (decode calls.now text.now) buf.old cursor.old result cursor.new buf.new }
-    ensures written_pieces { flags < 12 → cursor.old ≤ length buf.old → WrittenPieces (settings_by flags) (decode calls.now text.now)
-        buf.old cursor.old result cursor.new buf.new }
     ensures only_between { OnlyBetween buf.old cursor.old buf.new cursor.new }
 {
     let mut none = [0u8; 0];
@@ -124,7 +123,7 @@ pub extern "C" fn table_text_count_each(
     answers: &mut [u8],
 ) -> u8
     ensures value { result ≡ (count_end flags calls.now text.now).first }
-    ensures total_after { total.new ≡ (count_end flags calls.now text.now).number }
+    ensures bytes_after { record { mode = counting total.new; bytes = [] } ≡ (count_end flags calls.now text.now).output }
     ensures count_agrees { flags < 12 → CountAgrees (settings_by flags) (decode calls.now text.now) result total.new }
     ensures entries_after { entries.new ≡ (count_end flags calls.now text.now).entries }
     ensures answers_after { answers.new ≡ stored answers.old (count_answers flags calls.now text.now) }
@@ -148,14 +147,12 @@ pub extern "C" fn table_text_write_each(
     answers: &mut [u8],
 ) -> u8
     ensures value { result ≡ (write_end flags buf.old cursor.old calls.now text.now).first }
-    ensures cursor_after { cursor.new ≡ (write_end flags buf.old cursor.old calls.now text.now).number }
-    ensures buf_after { buf.new ≡ (write_end flags buf.old cursor.old calls.now text.now).bytes }
+    ensures buf_after { record { mode = writing cursor.new; bytes = buf.new }
+        ≡ (write_end flags buf.old cursor.old calls.now text.now).output }
     ensures write_agrees { flags < 12 → WriteAgrees (settings_by flags) (decode calls.now text.now)
         buf.old cursor.old result cursor.new buf.new }
     ensures writes_as_counted { WritesAsCounted (count_end flags calls.now text.now) (settings_by flags)
         (decode calls.now text.now) buf.old cursor.old result cursor.new buf.new }
-    ensures written_pieces { flags < 12 → cursor.old ≤ length buf.old → WrittenPieces (settings_by flags) (decode calls.now text.now)
-        buf.old cursor.old result cursor.new buf.new }
     ensures entries_after { entries.new ≡ (write_end flags buf.old cursor.old calls.now text.now).entries }
     ensures answers_after { answers.new
         ≡ stored answers.old (write_answers flags buf.old cursor.old calls.now text.now) }

@@ -1,4 +1,6 @@
 // Whether bytes are UTF-8, by the grammar of RFC 3629 section 4: what holds of every value of Rust's type str.
+#![tactic(auto)]
+
 ghost use Rattle.std.specs.Prelude.{true, ◌↔◌, ◌≡◌, List, ◌∷◌, ℕ, ◌≤◌, ◌<◌, length, get_or};
 ghost use Rattle.std.proofs.Math.Option.{some};
 ghost use Rattle.utf8.specs.Utf8.{well_formed, continues, follow};

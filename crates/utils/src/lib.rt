@@ -1,4 +1,6 @@
 // Ranges and boundaries (utils.rs, __hidden_utils.rs).
+#![tactic(auto)]
+
 ghost use Rattle.std.specs.Prelude.{◌≡◌, min, take};
 ghost use Rattle.utils.specs.Text.{saturated, is_boundary};
 

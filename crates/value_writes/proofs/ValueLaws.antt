@@ -1,5 +1,5 @@
 -- A value judged, then emitted: the fault that it meets, or its text placed or counted; and the parts of its length.
-use mathlib.Core.Bool.{Bool, true, false, not, cond, false≢true}
+use mathlib.Core.Bool.{Bool, true, false, not, cond}
 use mathlib.Core.Option.{none, some}
 use mathlib.Core.Path.{◌≡◌, refl, sym, ap, ◌∙◌}
 use mathlib.Core.List.{List, [], ◌∷◌, ◌++◌}
@@ -31,13 +31,13 @@ use Rattle.str_writer.specs.Write.{Outcome, placed, unless}
 use Rattle.str_writer.specs.Write.{put as put_text}
 use Rattle.pwrapper.proofs.Ranges.{clamped_end}
 use Rattle.calls.specs.Call.{fault_number}
-use Rattle.calls.specs.Model.{Mode, counting, writing, stopped, PieceOutcome, to, most, put_in, put, wrote, beyond, cut_in}
+use Rattle.calls.specs.Model.{Mode, counting, writing, PieceOutcome, to, most, put_in, put, wrote, beyond}
 use Rattle.writer_backend.specs.declared.pieces.WriterBackend.{WriterBackend}
 use Rattle.quoted_writes.proofs.Quoting.{count-above}
 use Rattle.value_writes.specs.declared.Integer.{Integer}
 use Rattle.value_writes.specs.declared.Integer.TheVariants.{Unsigned, Signed}
 use Rattle.value_writes.specs.declared.Parts.{Parts}
-use Rattle.writer_backend.specs.Output.{mode_of, is_counting, output_of}
+use Rattle.writer_backend.specs.Output.{mode_of, output_of}
 use Rattle.writer_backend.proofs.Sequence.{hold-zero}
 use Rattle.value_writes.specs.Values.{bits_of, integer_of, heeded_by, text_of_parts, judged_in, value_out}
 
@@ -66,7 +66,6 @@ module _ (a : Answer) {d : Bool} (t : d ≡ is_done a) where
 pub judged_uncut : (m : Mode) (v : Value) (a : Answer) → a ≡ answer_of (input_fault v) → cut_fault v ≡ none → number_of a ≡ judged_in m v
 judged_uncut (counting n) v a e u = rw e (sym (hold-zero (fault_number (input_fault v))))
 judged_uncut (writing p) v a e u = rw (e, u) (sym (hold-zero (fault_number (input_fault v))))
-judged_uncut (stopped p) v a e u = rw (e, u) (sym (hold-zero (fault_number (input_fault v))))
 
 -- a string: 4, then 3 in writing
 module _ (m : Mode) (v : Value) (a : Answer) (e : a ≡ answer_of (input_fault v)) {d : Bool} (t : d ≡ is_done a) where
@@ -76,22 +75,17 @@ module _ (m : Mode) (v : Value) (a : Answer) (e : a ≡ answer_of (input_fault v
   pub judged-counting : not d ≡ false → {n : ℕ} → m ≡ counting n → 0 ≡ judged_in m v
   judged-counting n q = rw (← e, number-done a t n, q)
 
-  pub judged-cut : not d ≡ false → {x : Bool} → x ≡ is_counting m → x ≡ false → {r : Answer} → r ≡ answer_of (cut_fault v) → number_of r ≡ judged_in m v
-  judged-cut n q z h = rw (← e, number-done a t n, h) (by_mode m (sym q ∙ z))
-    where
-      by_mode : (m : Mode) → is_counting m ≡ false → fault_number (cut_fault v) ≡ cut_in m (fault_number (cut_fault v))
-      by_mode (counting n) z = absurd (false≢true (sym z))
-      by_mode (writing p) z = refl
-      by_mode (stopped p) z = refl
+  pub judged-writing : not d ≡ false → {n : ℕ} → m ≡ writing n → {r : Answer} → r ≡ answer_of (cut_fault v) → number_of r ≡ judged_in m v
+  judged-writing n q h = rw (← e, number-done a t n, q, h)
 
 module _ (m : WriterBackend) (b : List ℕ) (f : FormattingFlags) (v : Value) where
   -- 9 before all
-  pub value-past : (a : ℕ) → a ≡ beyond (mode_of m) b → (a ≡ 0 → ⊥) → to (mode_of m) b a ≡ value_out m b f v
+  pub value_past : (a : ℕ) → a ≡ beyond (mode_of m) b → (a ≡ 0 → ⊥) → to (mode_of m) b a ≡ value_out m b f v
   unfolding value_out
-  value-past zero e n = absurd (n refl)
-  value-past (suc a) e n = rw (← e)
+  value_past zero e n = absurd (n refl)
+  value_past (suc a) e n = rw (← e)
 
-  -- a cursor within the bytes: a fault that is met is answered, else the text is counted or placed, or refused after a stop
+  -- a cursor within the bytes: a fault that is met is answered, else the text is counted or placed
   module _ (h : beyond (mode_of m) b ≡ 0) (a : Answer) (e : number_of a ≡ judged_in (mode_of m) v) {d : Bool} (t : d ≡ is_done a) where
     pub value-refused : not d ≡ true → {r : PieceOutcome} → r ≡ to (mode_of m) b (number_of a) → r ≡ value_out m b f v
     unfolding value_out
@@ -101,8 +95,8 @@ module _ (m : WriterBackend) (b : List ℕ) (f : FormattingFlags) (v : Value) wh
     unfolding value_out
     emitted n = rw (h, ← e, number-done a t n)
 
-    pub value-put : not d ≡ false → {r : PieceOutcome} → r ≡ put_in (mode_of m) b (text_of f v) → r ≡ value_out m b f v
-    value-put n p = p ∙ emitted n
+    pub value-counted : not d ≡ false → mode_of m ≡ counting m.number → {r : PieceOutcome} → r ≡ put_in (mode_of m) b (text_of f v) → r ≡ value_out m b f v
+    value-counted n q p = p ∙ (rw q) ∙ emitted n
 
     pub value-placed : not d ≡ false → mode_of m ≡ writing m.number → {o : Outcome} → o ≡ put_text b m.number (text_of f v) → wrote o ≡ value_out m b f v
     unfolding put_text

@@ -1,4 +1,6 @@
 // A value counted or written as one piece: the text of strings is lent beside it.
+#![tactic(auto)]
+
 ghost use Rattle.std.specs.Prelude.{◌≡◌, true, List, ℕ, ◌+◌, ◌^◌, ℤ, length};
 ghost use Rattle.error.specs.declared.Answer.TheVariants.{Done};
 ghost use Rattle.error.specs.Answer.{number_of};
@@ -24,7 +26,7 @@ use str_writer::{
     ascii_fault, char_fault, put_char_debug, put_part, range_fault, str_fault, write_ascii_repeated,
 };
 use utils::{Range, saturate_range};
-use writer_backend::{WriterBackend, Wrote, add_len, answered, from_written, no_room, past};
+use writer_backend::{WriterBackend, Wrote, add_len, answered, from_written, past};
 
 #[derive(Drop)]
 pub enum Form {
@@ -192,9 +194,6 @@ fn put_integer(m: WriterBackend, buf: &mut [u8], p: Parts) -> Wrote
     if m.is_counting() {
         return add_len(m, debug_len(p.is_negative, p.n, p.bits, flags));
     }
-    if !m.is_writing() {
-        return no_room(m);
-    }
     from_written(
         m,
         write_debug(buf, m.number, p.is_negative, p.n, p.bits, flags),
@@ -223,9 +222,6 @@ fn put_char(m: WriterBackend, buf: &mut [u8], form: Form, c: u32) -> Wrote
     let at = m.number;
     if m.is_counting() {
         return add_len(m, char_len(form, c));
-    }
-    if !m.is_writing() {
-        return no_room(m);
     }
     match form {
         Form::Display => from_written(m, str_writer::put_char(buf, at, c)),
@@ -268,9 +264,6 @@ fn put_str(m: WriterBackend, buf: &mut [u8], form: Form, s: &[u8], range: Range)
     if m.is_counting() {
         return add_string(m, form, s, range);
     }
-    if !m.is_writing() {
-        return no_room(m);
-    }
     match form {
         Form::Display => from_written(m, put_part(buf, at, s, range)),
         Form::Debug => from_written(m, put_quoted_part(buf, at, s, range)),
@@ -288,9 +281,6 @@ fn put_ascii(m: WriterBackend, buf: &mut [u8], form: Form, s: &[u8], range: Rang
     let at = m.number;
     if m.is_counting() {
         return add_string(m, form, s, range);
-    }
-    if !m.is_writing() {
-        return no_room(m);
     }
     match form {
         Form::Display => from_written(m, put_part(buf, at, s, range)),
@@ -325,9 +315,6 @@ fn put_repeated(m: WriterBackend, buf: &mut [u8], c: u8, n: usize) -> Wrote
 {
     if m.is_counting() {
         return add_len(m, n);
-    }
-    if !m.is_writing() {
-        return no_room(m);
     }
     from_written(m, write_ascii_repeated(buf, m.number, c, n))
 }

@@ -1,19 +1,10 @@
--- Pieces tried one after another, what they add to a total, pieces written to the first refusal, and the place that a field or an entry is.
-use Rattle.std.specs.Prelude.{Bool, true, false, cond, List, [], ◌∷◌, ℕ, ◌+◌, length}
+-- Pieces tried one after another from a refusal already held, what they add to a total, and the place that a field or an entry is.
+use Rattle.std.specs.Prelude.{Bool, true, false, List, [], ◌∷◌, ℕ, ◌+◌, length}
 use Rattle.calls.specs.Call.{Place, field, item, entry, spaces, hold}
-use Rattle.calls.specs.Model.{PieceOutcome, counting, to, put}
-use Rattle.error.specs.declared.Answer.TheVariants.{Done}
-use Rattle.error.specs.Answer.{is_done}
-use Rattle.str_writer.specs.Write.{Outcome, outcome}
-use Rattle.str_writer.specs.Write.{put as put_text}
-use Rattle.writer_backend.specs.declared.count_pieces.Counted.{Counted}
+use Rattle.calls.specs.Model.{PieceOutcome, put}
 use Rattle.writer_backend.specs.declared.record.PlaceKind.{PlaceKind}
 use Rattle.writer_backend.specs.declared.record.PlaceKind.TheVariants.{Field, Item}
 use Rattle.writer_backend.specs.declared.record.PlaceKind.TheVariants as place-kind
-
--- Document 01, 'A nested record': what pieces answer that are counted, with whatever bytes are lent
-abbrev pub counted_out : Counted → List ℕ → PieceOutcome
-counted_out r b = to (counting r.total) b r.answer
 
 -- Document 01, 'A nested record', field or entry: one piece more; the builder holds the first refusal
 unfoldable pub try_on : PieceOutcome → List ℕ → PieceOutcome
@@ -23,15 +14,6 @@ try_on p s = let a = put p.output s in record { answer = hold p.answer a.answer;
 abbrev pub try_all : PieceOutcome → List (List ℕ) → PieceOutcome
 try_all p [] = p
 try_all p (s ∷ ss) = try_all (try_on p s) ss
-
--- Document 02, ticket 8: before the first piece, at a cursor
-abbrev pub begun : List ℕ → ℕ → Outcome
-begun b at = outcome (record { at = at; answer = Done }) b
-
--- Document 02, ticket 8: pieces written after what others left, to the first refusal
-abbrev pub put_all : Outcome → List (List ℕ) → Outcome
-put_all o [] = o
-put_all o (s ∷ ss) = cond (is_done o.written.answer) (put_all (put_text o.bytes o.written.at s) ss) o
 
 -- Document 01, 'A nested record': what pieces add to the total together
 abbrev pub length_of : List (List ℕ) → ℕ

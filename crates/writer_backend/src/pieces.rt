@@ -1,20 +1,22 @@
-// Where text goes, and what a piece of it answers.
+// A piece of text counted or written, and pieces tried one after another.
 ghost use Rattle.std.specs.Prelude.{◌≡◌, List, ℕ};
-ghost use Rattle.calls.specs.Model.{counting, writing, stopped, number_in, to, unless_refused, stop_in, beyond};
-ghost use Rattle.error.specs.declared.Answer.TheVariants.{NotEnoughSpace};
+ghost use Rattle.calls.specs.Call.{spaces, hold};
+ghost use Rattle.calls.specs.Model.{counting, writing, to, beyond};
+ghost use Rattle.calls.specs.Model.{put as put_text};
 ghost use Rattle.error.specs.Answer.{number_of};
-ghost use Rattle.writer_backend.specs.Output.{mode_of, is_counting, is_writing, with_number, added, put_out};
+ghost use Rattle.writer_backend.specs.Output.{mode_of, is_counting, with_number, added, output_of, put_out};
+ghost use Rattle.writer_backend.specs.Pieces.{try_on};
+ghost use Rattle.writer_backend.specs.Words.{text_of_word};
 
-use crate::count_pieces::Counted;
+use crate::words::Word;
 use error::Answer;
 use str_writer::{Written, cursor_fault};
+use utils::slice_up_to_len;
 
 // The modes of a WriterBackend.
 const WRITING: u64 = 0;
 
 const COUNTING: u64 = 1;
-
-const STOPPED: u64 = 2;
 
 // The number is the cursor where text is written, the total where it is counted.
 #[derive(Drop)]
@@ -44,16 +46,6 @@ impl WriterBackend {
         }
     }
 
-    // A piece was refused at this cursor: nothing more is written.
-    pub fn stopped(cursor: usize) -> Self
-        ensures { mode_of result ≡ stopped cursor }
-    {
-        WriterBackend {
-            mode: STOPPED,
-            number: cursor,
-        }
-    }
-
     // The same with another total or cursor.
     pub fn moved_to(self, number: usize) -> Self
         ensures { mode_of result ≡ with_number (mode_of self) number }
@@ -69,23 +61,6 @@ impl WriterBackend {
         ensures { result ≡ is_counting (mode_of self) }
     {
         self.mode % 2 == COUNTING
-    }
-
-    // Whether text is written: not after a stop.
-    pub fn is_writing(self) -> bool
-        ensures { result ≡ is_writing (mode_of self) }
-    {
-        self.mode % 4 == WRITING
-    }
-
-    // What a call answers that has nothing to write: 1 after a stop.
-    pub fn stop_answer(self) -> u8
-        ensures { result ≡ stop_in (mode_of self) }
-    {
-        if self.mode % 4 == STOPPED {
-            return Answer::NotEnoughSpace.number();
-        }
-        Answer::Done.number()
     }
 }
 
@@ -127,30 +102,94 @@ pub fn add_len(m: WriterBackend, len: usize) -> Wrote
     answered(m, Answer::CountTooLarge)
 }
 
-// What pieces that were counted answered, with the total that they left.
-pub fn from_counted(m: WriterBackend, c: Counted) -> Wrote
-    ensures { (b : List ℕ) → put_out result b ≡ to (with_number (mode_of m) c.total) b c.answer }
-{
-    Wrote {
-        answer: c.answer,
-        mode: m.moved_to(c.total),
-    }
-}
-
-// What a single write answered, as that of a piece: a refused one stops the run.
+// What a single write answered, as that of a piece.
 pub fn from_written(m: WriterBackend, w: Written) -> Wrote
-    ensures { (b : List ℕ) → put_out result b ≡ to (unless_refused w.answer (with_number (mode_of m) w.at) w.at) b (number_of w.answer) }
+    ensures { (b : List ℕ) → put_out result b ≡ to (with_number (mode_of m) w.at) b (number_of w.answer) }
 {
     let answer = w.answer;
-    if answer.is_done() {
-        return answered(m.moved_to(w.at), answer);
-    }
-    answered(WriterBackend::stopped(w.at), answer)
+    answered(m.moved_to(w.at), answer)
 }
 
-// What a piece answers that has no room: the run stops where it is.
-pub fn no_room(m: WriterBackend) -> Wrote
-    ensures { (b : List ℕ) → put_out result b ≡ to (stopped (number_in (mode_of m))) b (number_of NotEnoughSpace) }
+// A piece: counted, or written at the cursor. A cursor past the bytes has no room.
+pub fn put(m: WriterBackend, buf: &mut [u8], s: &[u8]) -> Wrote
+    ensures { put_out result buf.new ≡ put_text (output_of m buf.old) s.now }
 {
-    answered(WriterBackend::stopped(m.number), Answer::NotEnoughSpace)
+    let n = m.number;
+    if m.is_counting() {
+        return add_len(m, s.len());
+    }
+    if buf.len() < n {
+        return answered(m, Answer::NotEnoughSpace);
+    }
+    let w = str_writer::put(buf, n, s);
+    from_written(m, w)
+}
+
+// k spaces as a piece.
+pub fn put_spaces(m: WriterBackend, buf: &mut [u8], k: usize) -> Wrote
+    ensures { put_out result buf.new ≡ put_text (output_of m buf.old) (spaces k) }
+{
+    let n = m.number;
+    if m.is_counting() {
+        return add_len(m, k);
+    }
+    if buf.len() < n {
+        return answered(m, Answer::NotEnoughSpace);
+    }
+    let w = str_writer::write_ascii_repeated(buf, n, b' ', k);
+    from_written(m, w)
+}
+
+// A word as a piece.
+pub fn put_word(m: WriterBackend, buf: &mut [u8], w: Word) -> Wrote
+    ensures { put_out result buf.new ≡ put_text (output_of m buf.old) (text_of_word w) }
+{
+    let t = w.bytes;
+    let n = w.len;
+    put(m, buf, slice_up_to_len(&t, n))
+}
+
+// The first refusal of two answers.
+fn first(held: u8, answer: u8) -> u8
+    ensures { result ≡ hold held answer }
+{
+    if held == Answer::Done.number() {
+        return answer;
+    }
+    held
+}
+
+// What a piece leaves that is tried after others, of which held is the first refusal.
+fn after(held: u8, w: Wrote) -> Wrote
+    ensures { (b : List ℕ) → put_out result b ≡ record { answer = hold held w.answer; output = output_of w.mode b } }
+{
+    let mode = w.mode;
+    Wrote {
+        answer: first(held, w.answer),
+        mode,
+    }
+}
+
+// A piece tried after others: t is what they left, with the first refusal.
+pub fn try_put(t: Wrote, buf: &mut [u8], s: &[u8]) -> Wrote
+    ensures { put_out result buf.new ≡ try_on (put_out t buf.old) s.now }
+{
+    let m = t.mode;
+    after(t.answer, put(m, buf, s))
+}
+
+// A word tried after others.
+pub fn try_word(t: Wrote, buf: &mut [u8], s: Word) -> Wrote
+    ensures { put_out result buf.new ≡ try_on (put_out t buf.old) (text_of_word s) }
+{
+    let m = t.mode;
+    after(t.answer, put_word(m, buf, s))
+}
+
+// n spaces tried after others.
+pub fn try_spaces(t: Wrote, buf: &mut [u8], n: usize) -> Wrote
+    ensures { put_out result buf.new ≡ try_on (put_out t buf.old) (spaces n) }
+{
+    let m = t.mode;
+    after(t.answer, put_spaces(m, buf, n))
 }

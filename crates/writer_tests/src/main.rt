@@ -1,5 +1,7 @@
 // Single writes at a cursor. The cases are lines of standard input, in the forms that README.md
 // gives. Each prints itself, then what the function under test gives for it.
+#![tactic(auto)]
+
 mod cursor;
 mod integers;
 mod lent;

@@ -38,7 +38,7 @@ use denote.Triple.Table.{entered, cited}
 use denote.Triple.Walked.{says, Stays, stay_none, stay_none_slice, walk_of, Goes-none, Goes-none_slice, Walks, ends_at, walked, walk_Meets}
 use denote.Triple.Clauses.{ensured, lasts}
 use denote.Exit.{yes}
-use Rattle.calls.specs.Model.{counting}
+use Rattle.calls.specs.Model.{Mode, number_in, counting}
 use Rattle.calls.specs.declared.Settings.{Settings}
 use Rattle.calls.specs.contracts.Settings as Set
 use Rattle.calls.proofs.Settings.TheLaws as Set'
@@ -145,7 +145,7 @@ module _ {M : Type 1} {𝓤 : Ura M} (𝓛 : Logic 𝓤) (at_mem : Memory → SP
   exits : Is Set.the_row S (settings_val ∷ []) → (r : Ran) (a k k' : ℕ) → Is P.the_row (result r a k') (result_val r a k' ∷ []) → CountsRun r k end → Adds a k k' → ent 𝓤 (⋆ 𝓛 (Toks ∷ ‵ OwnT ∷ ‵ OwnS ∷ [])) (Post (result_val r a k'))
   exits is-settings r a k k' pr e₁ e₂ =
       qed 𝓛 (Toks ∷ ‵ OwnT ∷ ‵ OwnS ∷ []) ∵ suffices ! _ (ends_at 𝓛 both.ended stayed (both.clauses 𝓛 at_mem run) bound (result_val r a k') (result r a k') (tt, (tt, (tt, (tt, tt)))) (tt, (tt, (tt, (tt, tt))))) $
-      says ! (e₁.0, e₂ ∙ ap (λ (k : ℕ). add_to k n) (sym (ap (λ (u : Played). u.number) e₁.0 ∙ e₁.1))) $
+      says ! (e₁.0, e₂ ∙ ap (λ (u : Mode). add_to (number_in u) n) (sym (ap (λ (u : Played). u.output.mode) e₁.0 ∙ e₁.1))) $
       frame ! $ nothing ! $ owned ! usize (Is usize) (uint_Makes 𝓛 w64) n _ (refl, n-fits) $ fjoin ! $ move ! (1 ∷ 0 ∷ []) $ fjoin ! $ move ! (1 ∷ 0 ∷ []) $ fjoin ! $ owned ! Set.the_row (Is Set.the_row) (LL.makes Set.the_type Set'.the_plain 𝓛) S _ is-settings $ fjoin ! $
       owned ! P.the_row (Is P.the_row) (LL.makes P.the_type P'.the_plain 𝓛) (result r a k') _ pr $ move ! (1 ∷ 0 ∷ []) $ done !
 

@@ -1,6 +1,6 @@
 use mathlib.Core.Path.{◌∙◌}
 use borrow.Author.Rules.{rules}
-use Rattle.lines.proofs.Laws.{part_none, part-past, part-some}
+use Rattle.lines.proofs.Laws.{part_none, part_past, part-some}
 use Rattle.lines.proofs.part.Statement.{statement}
 use Rattle.lines.proofs.part.Tie as tie
 
@@ -12,7 +12,7 @@ returns c =
 returns-2 : tie.Need-returns-2
 returns-2 c =
     let at-args = c.before.before.before.before in
-    let a = at-args.args in part-past a.space.now a.from a.to c.before.if2.true
+    let a = at-args.args in part_past a.space.now a.from a.to c.before.if2.true
 
 returns-3 : tie.Need-returns-3
 returns-3 c =

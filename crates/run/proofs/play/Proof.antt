@@ -4,7 +4,6 @@ use native.Mathlib.Omega.{arith}
 use lib.ListN.{length, drop, get_or, length-drop}
 use borrow.Author.Rules.{rules}
 use Rattle.writer_backend.specs.Output.{mode_of}
-use Rattle.writer_backend.proofs.Output.{number_in_lem}
 use Rattle.formatter.specs.View.{view}
 use Rattle.encoded_call.specs.Encoding.{call_at, decode}
 use Rattle.run.specs.Played.{run_or}
@@ -81,7 +80,7 @@ returns c =
     let h = at-loop.loop in
     let a = at-args.args in
     let e = rw (decode-end (drop (5 * h.k) a.calls.now) a.text.now (simp length-drop (omega (arith, at_test.loop-test.false, h.invariant.0)))) at h.invariant.3 in
-    play_end (mode_of a.mode) a.buf.now a.settings (decode a.calls.now a.text.now) a.answers.now _ _ (at_new.new.ensures _ a.buf.now) at-loop.before.past.ensures h.first h.place h.k h.answers (view h.head h.stack h.buf) _ _ _ c.before.before.place_of.ensures (c.open_entries.ensures.0 h.stack h.buf) (number_in_lem h.head.mode) e
+    play_end (mode_of a.mode) a.buf.now a.settings (decode a.calls.now a.text.now) a.answers.now _ _ (at_new.new.ensures _ a.buf.now) at-loop.before.past.ensures h.first h.place h.k h.answers (view h.head h.stack h.buf) _ _ c.before.before.place_of.ensures (c.open-entries.ensures.0 h.stack h.buf) e
 
 pub play_spec : {M : Type 1} → statement M
 play_spec = tie.close (tie.spec invariant-loop decreases-loop (λ c κs. search rules) (λ c κs. search rules) loop-holds (λ c. search rules) (λ c. search rules) (λ c. search rules) (λ c. search rules) (λ c. search rules) (λ c. search rules) (λ c. search rules) (λ c. search rules) (λ c. search rules) (λ c. search rules) (λ c. search rules) (λ c. search rules) (λ c. search rules) (λ c. search rules) (λ c. search rules) (λ c κs. search rules) (λ c κs. search rules) (λ c κs. search rules) add-k loop-less loop-again (λ c κs. search rules) (λ c κs. search rules) same_length same-length-2 returns)

@@ -5,7 +5,7 @@ use borrow.Author.Rules.{rules}
 use Rattle.str_writer.specs.Write.{put}
 use Rattle.sheet.specs.Sheet.{end_line}
 use Rattle.sheet.proofs.Printing.{end-part}
-use Rattle.writer_backend.proofs.Output.{number_in_lem}
+use Rattle.sheet.proofs.Stepping.{number_in_lem}
 use Rattle.sheet.proofs.end_sheet.Statement.{statement}
 use Rattle.sheet.proofs.end_sheet.Tie as tie
 

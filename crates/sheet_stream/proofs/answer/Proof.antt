@@ -1,6 +1,6 @@
 use native.Mathlib.Omega.{arith}
 use borrow.Author.Tests.{not-true, not-false}
-use Rattle.sheet_stream.proofs.Laws.{answers-stopped, stage-first, stage-later}
+use Rattle.sheet_stream.proofs.Laws.{answers_stopped, stage-first, stage-later}
 use borrow.Author.Rules.{rules}
 use Rattle.sheet_stream.proofs.answer.Statement.{statement}
 use Rattle.sheet_stream.proofs.answer.Tie as tie
@@ -9,7 +9,7 @@ returns : tie.Need-returns
 returns c =
     let a = c.before.before.before.before.args in
     let p = c.before.before.before.before.requires in
-    (answers-stopped a.h _ _ _ a.l.now a.out.now a.at (not-true _ c.if1.true), record { size = p.0.size; starts = p.0.starts; counts = omega arith })
+    (answers_stopped a.h _ _ _ a.l.now a.out.now a.at (not-true _ c.if1.true), record { size = p.0.size; starts = p.0.starts; counts = omega arith })
 
 returns-2 : tie.Need-returns-2
 returns-2 c =

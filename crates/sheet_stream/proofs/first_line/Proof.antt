@@ -2,7 +2,7 @@ use mathlib.Core.Path.{sym, ap, ◌∙◌}
 use native.Mathlib.Omega.{arith}
 use Rattle.sheet.specs.Sheet.{bad_text, refused_text}
 use Rattle.sheet_stream.specs.Left.{first, later}
-use Rattle.sheet_stream.proofs.Laws.{answers-over, answers-fresh, begin_bad, begin-refused, fresh-size, halted_over, onward-stopped}
+use Rattle.sheet_stream.proofs.Laws.{answers-over, answers-fresh, begin_bad, begin-refused, fresh-size, halted_over, onward_stopped}
 use borrow.Author.Rules.{rules}
 use Rattle.sheet_stream.proofs.first_line.Statement.{statement}
 use Rattle.sheet_stream.proofs.first_line.Tie as tie
@@ -23,7 +23,7 @@ returns c =
     let a = at-args.args in
     let e = sym at-parse-begin.parse-begin.ensures ∙ at-enum-told.enum_told.given.1 in
     let p = at-args.requires in
-    ((λ x y. answers-over first _ a.l.now a.out.now _ a.at (bad_text 1) _ (halted_over c.stopped.result x y _ a.h c.stopped.ensures) (begin_bad a.l.now e) at-put-bad.put_bad.ensures.0 (omega arith) p.1.1), onward-stopped a.h c.stopped.result a.buf.now p.0 c.stopped.ensures)
+    ((λ x y. answers-over first _ a.l.now a.out.now _ a.at (bad_text 1) _ (halted_over c.stopped.result x y _ a.h c.stopped.ensures) (begin_bad a.l.now e) at-put-bad.put_bad.ensures.0 (omega arith) p.1.1), onward_stopped a.h c.stopped.result a.buf.now p.0 c.stopped.ensures)
 
 returns-2 : tie.Need-returns-2
 returns-2 c =
@@ -34,7 +34,7 @@ returns-2 c =
     let a = at-args.args in
     let e = sym at-parse-begin.parse-begin.ensures ∙ at-enum-told2.enum-told2.given.1 in
     let p = at-args.requires in
-    ((λ x y. answers-over first _ a.l.now a.out.now _ a.at refused_text _ (halted_over c.stopped2.result x y _ a.h c.stopped2.ensures) (begin-refused a.l.now e) at-put-refused.Put-refused.ensures (omega arith) p.1.1), onward-stopped a.h c.stopped2.result a.buf.now p.0 c.stopped2.ensures)
+    ((λ x y. answers-over first _ a.l.now a.out.now _ a.at refused_text _ (halted_over c.stopped2.result x y _ a.h c.stopped2.ensures) (begin-refused a.l.now e) at-put-refused.Put-refused.ensures (omega arith) p.1.1), onward_stopped a.h c.stopped2.result a.buf.now p.0 c.stopped2.ensures)
 
 returns-3 : tie.Need-returns-3
 returns-3 c =

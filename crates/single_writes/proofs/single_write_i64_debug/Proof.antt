@@ -4,8 +4,7 @@ use mathlib.Core.Path.{refl, ap, ◌∙◌}
 use native.Mathlib.Omega.{arith}
 use borrow.Author.Tests.{lt-ltb, le-ltb}
 use borrow.Author.Rules.{rules}
-use Rattle.calls.specs.Model.{to, writing}
-use Rattle.single_writes.specs.Single.{alone}
+use Rattle.calls.specs.Model.{wrote, to, writing}
 use Rattle.single_writes.proofs.single_write_i64_debug.Statement.{statement}
 use Rattle.single_writes.proofs.single_write_i64_debug.Tie as tie
 
@@ -20,7 +19,7 @@ returns-2 c =
     let at-flags = at-write.before in
     let s = at-flags.before.before.before.before.before in
     rw (lt-ltb s.args.flags 12 (omega arith))
-    (c.answered.ensures _ ∙ ap (λ o. alone o) (rw (to_z-of_z w64 s.args.x s.ranges.x, at-flags.flags_of.ensures) at at-write.write-i64-debug.ensures))
+    (c.answered.ensures _ ∙ ap (λ o. wrote o) (rw (to_z-of_z w64 s.args.x s.ranges.x, at-flags.flags_of.ensures) at at-write.write-i64-debug.ensures))
 
 pub single_write_i64_debug_spec : {M : Type 1} → statement M
 single_write_i64_debug_spec = tie.close (tie.spec (λ c κs. search rules) returns (λ c κs. search rules) (λ c κs. search rules) (λ c κs. search rules) (λ c. search rules) returns-2)

@@ -1,12 +1,12 @@
 use mathlib.Core.Path.{ap, ◌∙◌}
 use borrow.Author.Rules.{rules}
-use Rattle.single_writes.specs.Single.{alone}
+use Rattle.calls.specs.Model.{wrote}
 use Rattle.single_writes.proofs.single_write_str_range_debug.Statement.{statement}
 use Rattle.single_writes.proofs.single_write_str_range_debug.Tie as tie
 
 returns : tie.Need-returns
 returns c =
-    c.answered.ensures _ ∙ ap (λ o. alone o) c.before.before.before.before.write-str-range-debug.ensures
+    c.answered.ensures _ ∙ ap (λ o. wrote o) c.before.before.before.before.write-str-range-debug.ensures
 
 pub single_write_str_range_debug_spec : {M : Type 1} → statement M
 single_write_str_range_debug_spec = tie.close (tie.spec (λ c κs. search rules) (λ c κs. search rules) (λ c. search rules) returns)

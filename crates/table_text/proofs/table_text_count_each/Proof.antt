@@ -8,7 +8,7 @@ returns : tie.Need-returns
 returns c =
     let at_count = c.before.before in
     let e = at_count.count.ensures in
-    (ap (λ (x : Played). x.first) e.0, (ap (λ (x : Played). x.number) e.0, (e.1.1, (ap (λ (x : Played). x.entries) e.0, e.1.0))))
+    (ap (λ (x : Played). x.first) e.0, (ap (λ (x : Played). x.output) e.0, (e.1.1, (ap (λ (x : Played). x.entries) e.0, e.1.0))))
 
 pub table_text_count_each_spec : {M : Type 1} → statement M
 table_text_count_each_spec = tie.close (tie.spec (λ c κs. search rules) (λ c. search rules) returns)

@@ -8,7 +8,7 @@ returns : tie.Need-returns
 returns c =
     let at-write = c.before.before.before.before in
     let e = at-write.write.ensures in
-    (ap (λ (x : Played). x.first) e.0, (ap (λ (x : Played). x.number) e.0, (ap (λ (x : Played). x.bytes) e.0, (e.1.1.0, (e.1.1.1.0, (e.1.1.1.1.0, (ap (λ (x : Played). x.entries) e.0, (e.1.0, e.1.1.1.1.1))))))))
+    (ap (λ (x : Played). x.first) e.0, (ap (λ (x : Played). x.output) e.0, (e.1.1.0, (e.1.1.1.0, (ap (λ (x : Played). x.entries) e.0, (e.1.0, e.1.1.1.1))))))
 
 pub table_text_write_each_spec : {M : Type 1} → statement M
 table_text_write_each_spec = tie.close (tie.spec (λ c κs. search rules) (λ c. search rules) (λ c. search rules) returns)

@@ -4,7 +4,7 @@ use Rattle.str_writer.specs.Value.{text_of}
 use Rattle.calls.specs.Model.{beyond}
 use Rattle.writer_backend.specs.Output.{mode_of, put_out}
 use Rattle.value_writes.specs.Values.{form_of, text_of_parts, value_of, value_out}
-use Rattle.value_writes.proofs.ValueLaws.{by_type, value-past}
+use Rattle.value_writes.proofs.ValueLaws.{by_type, value_past}
 use Rattle.value_writes.proofs.put_value.Statement.{statement}
 use Rattle.value_writes.proofs.put_value.Tie as tie
 
@@ -22,7 +22,7 @@ returns c =
     let at-number = c.before in
     let at-past = at-number.before in
     let a = at-past.before.before.before.before.args in
-    value-past a.m a.buf.now a.flags (value_of a.v a.s.now) at-past.past.result at-past.past.ensures (λ z. c.if1.true (z ∙ sym at-number.number.ensures))
+    value_past a.m a.buf.now a.flags (value_of a.v a.s.now) at-past.past.result at-past.past.ensures (λ z. c.if1.true (z ∙ sym at-number.number.ensures))
 
 returns-2 : tie.Need-returns-2
 returns-2 c =

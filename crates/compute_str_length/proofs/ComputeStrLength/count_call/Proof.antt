@@ -45,9 +45,8 @@ use denote.Triple.Clauses.{ensured, lasts}
 use denote.Exit.{yes}
 use Rattle.calls.specs.Call.{Call as ModelCall}
 use Rattle.calls.specs.Model.{counting, State, Out}
-use Rattle.agreement.specs.Untouched.{LeavesRest}
-use Rattle.agreement.proofs.Output.{rest-start}
-use Rattle.agreement.proofs.Rest.{rest_untouched}
+use Rattle.agreement.proofs.Output.{Kept, KeptIn}
+use Rattle.agreement.proofs.Moves.{run_kept}
 use Rattle.writer_backend.specs.Output.{as_mode}
 use Rattle.writer_backend.proofs.pieces.WriterBackend.TheLaws as B'
 use Rattle.formatter.specs.declared.head.Head.{Head}
@@ -90,21 +89,19 @@ abbrev Steps : ℕ → Head → List ℕ → Op → List ℕ → HeadStep → Li
 Steps m d s p t r z = ◌≡◌ {A = Out} (view_out r z []) (step_or (counting_at m d s) (call_of p t))
 
 -- a call that is counted leaves a counting formatter, so the head's mode is one
-counted-on : (F : State) (c : Option ModelCall) → LeavesRest F.output.mode F.output.bytes (step_or F c).state.output.mode (step_or F c).state.output.bytes
-counted-on F (just c) = rest_untouched F (c ∷ [])
-counted-on F none = rest-start F.output.mode F.output.bytes
+counted-on : (F : State) (c : Option ModelCall) → KeptIn (counting 0) [] F.output → KeptIn (counting 0) [] (step_or F c).state.output
+counted-on F (just c) k = run_kept (counting 0) [] F (c ∷ []) k
+counted-on F none k = k
 
-as_counting : (m c n : ℕ) → LeavesRest (counting m) [] (as_mode c n) [] → as_mode c n ≡ counting n
-as_counting m zero n k = absurd k
-as_counting m (suc zero) n k = refl
-as_counting m (suc (suc zero)) n k = absurd k
-as_counting m (suc (suc (suc c))) n k = refl
+as_counting : (c n : ℕ) → Kept (counting 0) [] (as_mode c n) [] → as_mode c n ≡ counting n
+as_counting zero n k = absurd k.0
+as_counting (suc c) n k = refl
 
 call-counts : (m : ℕ) (d : Head) (s : List ℕ) (c : Option ModelCall) (r : HeadStep) (z : List ℕ) → ◌≡◌ {A = Out} (view_out r z []) (step_or (counting_at m d s) c)
     → (step_or (counting_at m d s) c).state.output.mode ≡ counting r.head.mode.number
 call-counts m d s c r z e =
-    let k = subst (λ (u : Out). LeavesRest (counting m) [] u.state.output.mode u.state.output.bytes) (sym e) (counted-on (counting_at m d s) c) in
-    ap (λ (u : Out). u.state.output.mode) (sym e) ∙ as_counting m (r.head.mode.mode % 4) r.head.mode.number k
+    let k = subst (λ (u : Out). KeptIn (counting 0) [] u.state.output) (sym e) (counted-on (counting_at m d s) c (refl, tt)) in
+    ap (λ (u : Out). u.state.output.mode) (sym e) ∙ as_counting (r.head.mode.mode % 2) r.head.mode.number k
 
 module _ {M : Type 1} {𝓤 : Ura M} (𝓛 : Logic 𝓤) (mem' : Memory → SProp 𝓤) (run : Routine → Fun 𝓤) where
   abbrev Call : Contract 𝓤

@@ -122,7 +122,7 @@ module _ {M : Type 1} {𝓤 : Ura M} (𝓛 : Logic 𝓤) (at_mem : Memory → SP
       → ent 𝓤 (⋆ 𝓛 (‵ (fobs γ ((T.the_row).coded.code (h r.number))) ∷ ‵ (fbor κ (Body (mem T.the_row) b o γ)) ∷ ‵ (flft κ q) ∷ Toks ∷ ‵ OwnT ∷ ‵ OwnS ∷ [])) (Post (rv r))
   exits is-settings r pr e =
       qed 𝓛 (‵ (fobs γ ((T.the_row).coded.code (h r.number))) ∷ ‵ (fbor κ (Body (mem T.the_row) b o γ)) ∷ ‵ (flft κ q) ∷ Toks ∷ ‵ OwnT ∷ ‵ OwnS ∷ []) ∵
-      suffices ! _ (ends_at 𝓛 count-run.ended stayed (count-run.clauses 𝓛 at_mem run) bound (rv r) r (h r.number, (tt, (tt, (tt, tt)))) (tt, (tt, (tt, (tt, tt))))) $ says ! (e, ap (λ (p : Played). p.number) (sym e)) $
+      suffices ! _ (ends_at 𝓛 count-run.ended stayed (count-run.clauses 𝓛 at_mem run) bound (rv r) r (h r.number, (tt, (tt, (tt, tt)))) (tt, (tt, (tt, (tt, tt))))) $ says ! (e, ap (λ (p : Played). p.output.mode) (sym e)) $
       move ! (2 ∷ 3 ∷ []) $ join ! $ frame ! $ feq_i ! (List Val) (vptr b o ∷ []) (vptr b o ∷ []) refl $ fjoin3 ! $
       nothing ! $ move ! (2 ∷ 0 ∷ []) $ fjoin ! $ move ! (2 ∷ 0 ∷ []) $ fjoin ! $ owned ! Set.the_row (Is Set.the_row) (LL.makes Set.the_type Set'.the_plain 𝓛) S _ is-settings $ fjoin ! $ move ! (1 ∷ 0 ∷ []) $ fjoin ! $
       owned ! R.the_row (Is R.the_row) (LL.makes R.the_type R'.the_plain 𝓛) r _ pr $ move ! (1 ∷ 0 ∷ []) $ done !

@@ -30,21 +30,19 @@ returns-2 c =
 
 pop-requires : tie.Need-pop-requires
 pop-requires c κs =
-    let at-if2 = c.before.before.before.before.before in
+    let at-if2 = c.before.before.before.before in
     let at-judge-endsub = at-if2.before in
     let at-begin = at-judge-endsub.before in
-    let a = at-begin.before.before.before.before.args in
+    let at-args = at-begin.before.before.before.before in
+    let a = at-args.args in
     let i = at-begin.begin in
     let f = at-judge-endsub.judge-endsub in
     endsub-some a.stack.now i.result.top i.result.depth 0 f.result (begun-top a.h a.stack.now a.buf.now i.result i.ensures.0) at-if2.if2.false (f.ensures 0)
 
 returns-3 : tie.Need-returns-3
 returns-3 c =
-    let at-margin-in = c.before in
-    let at-flags-number = at-margin-in.before in
-    let at-flags-in = at-flags-number.before in
-    let at-stop-answer = at-flags-in.before in
-    let at-if2 = at-stop-answer.before.before in
+    let at-flags-in = c.before.before.before in
+    let at-if2 = at-flags-in.before.before in
     let at-judge-endsub = at-if2.before in
     let at-begin = at-judge-endsub.before in
     let at-if1 = at-begin.before in
@@ -54,10 +52,9 @@ returns-3 c =
     let z = sym at-past.past.ensures ∙ at-if1.if1.false in
     let f = at-judge-endsub.judge-endsub in
     let l = at-flags-in.flags-in in
-    let y = at-margin-in.margin_in in
-    let x = at-flags-number.flags-number in
-    let s = at-stop-answer.stop-answer in
-    rw c.pop.ensures (endsub-done a.h a.stack.now a.buf.now i.result i.ensures.0 z f.result at-if2.if2.false (f.ensures (margin_of a.h.margin)) l.result l.ensures y.result y.ensures (omega arith) x.result x.ensures.1 s.result s.ensures)
+    let y = c.before.margin_in in
+    let x = c.before.before.flags-number in
+    rw c.pop.ensures (endsub-done a.h a.stack.now a.buf.now i.result i.ensures.0 z f.result at-if2.if2.false (f.ensures (margin_of a.h.margin)) l.result l.ensures y.result y.ensures (omega arith) x.result x.ensures.1)
 
 pub endsub-at_spec : {M : Type 1} → statement M
-endsub-at_spec = tie.close (tie.spec (λ c κs. search rules) (λ c κs. search rules) returns (λ c κs. search rules) (λ c κs. search rules) (λ c κs. search rules) returns-2 (λ c κs. search rules) (λ c κs. search rules) (λ c κs. search rules) (λ c κs. search rules) (λ c. search rules) pop-requires returns-3)
+endsub-at_spec = tie.close (tie.spec (λ c κs. search rules) (λ c κs. search rules) returns (λ c κs. search rules) (λ c κs. search rules) (λ c κs. search rules) returns-2 (λ c κs. search rules) (λ c κs. search rules) (λ c κs. search rules) (λ c. search rules) pop-requires returns-3)

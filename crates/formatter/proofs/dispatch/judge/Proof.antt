@@ -5,7 +5,7 @@ use Rattle.writer_backend.specs.Pieces.{place_of}
 use Rattle.value_writes.specs.Values.{value_of}
 use Rattle.formatter.specs.Calls.{call_of}
 use Rattle.formatter.specs.View.{margin_of}
-use Rattle.formatter.proofs.Steps.{begun-top, past-fault, none-fault, met, value-fault}
+use Rattle.formatter.proofs.Steps.{begun-top, past_fault, none-fault, met, value-fault}
 use Rattle.formatter.proofs.dispatch.judge.Statement.{statement}
 use Rattle.formatter.proofs.dispatch.judge.Tie as tie
 
@@ -15,7 +15,7 @@ returns c =
     let at-args = at-past.before.before.before in
     let a = at-args.args in
     let o = at-past.past in
-    past-fault a.h a.stack.now a.buf.now o.result o.ensures (call_of a.op a.s.now) c.if1.true
+    past_fault a.h a.stack.now a.buf.now o.result o.ensures (call_of a.op a.s.now) c.if1.true
 
 returns-2 : tie.Need-returns-2
 returns-2 c =

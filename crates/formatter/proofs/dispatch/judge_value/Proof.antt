@@ -59,5 +59,5 @@ returns-4 c =
     let x = c.cut-fault in
     value_unmet a.top (value_of a.v a.s.now) r.result r.ensures (mode_of a.mode) (not-false _ at-if1.if1.false) f.result f.ensures at-if2.if2.false x.result (cut-written (mode_of a.mode) t.result x.result _ t.ensures at-if3.if3.false x.ensures)
 
-pub judge-value_spec : {M : Type 1} → statement M
-judge-value_spec = tie.close (tie.spec (λ c κs. search rules) (λ c κs. search rules) returns (λ c κs. search rules) returns-2 (λ c κs. search rules) (λ c κs. search rules) returns-3 (λ c κs. search rules) returns-4)
+pub judge_value_spec : {M : Type 1} → statement M
+judge_value_spec = tie.close (tie.spec (λ c κs. search rules) (λ c κs. search rules) returns (λ c κs. search rules) returns-2 (λ c κs. search rules) (λ c κs. search rules) returns-3 (λ c κs. search rules) returns-4)

@@ -1,5 +1,5 @@
 use borrow.Author.Rules.{rules}
-use Rattle.formatter.proofs.Steps.{past-none, none-wrong}
+use Rattle.formatter.proofs.Steps.{past_none, none-wrong}
 use Rattle.formatter.proofs.dispatch.no_call.Statement.{statement}
 use Rattle.formatter.proofs.dispatch.no_call.Tie as tie
 
@@ -10,7 +10,7 @@ returns c =
     let at-args = at-past.before.before.before in
     let a = at-args.args in
     let o = at-past.past in
-    λ s. rw c.refused.ensures (past-none a.h s a.buf.now o.result o.ensures at-if1.if1.true)
+    λ s. rw c.refused.ensures (past_none a.h s a.buf.now o.result o.ensures at-if1.if1.true)
 
 returns-2 : tie.Need-returns-2
 returns-2 c =

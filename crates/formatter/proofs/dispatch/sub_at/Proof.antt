@@ -40,8 +40,7 @@ push-requires c κs =
 
 returns-3 : tie.Need-returns-3
 returns-3 c =
-    let at-stop-answer = c.before in
-    let at_push = at-stop-answer.before.before in
+    let at_push = c.before.before in
     let at-pack-outer = at_push.before in
     let at-margin = at-pack-outer.before in
     let at-flags = at-margin.before in
@@ -50,7 +49,8 @@ returns-3 c =
     let at-begin = at-judge-sub.before in
     let at-if1 = at-begin.before.before in
     let at-past = at-if1.before in
-    let a = at-past.before.before.args in
+    let at-args = at-past.before.before in
+    let a = at-args.args in
     let i = at-begin.begin in
     let z = sym at-past.past.ensures ∙ at-if1.if1.false in
     let f = at-judge-sub.judge-sub in
@@ -59,8 +59,7 @@ returns-3 c =
     let v = at-pack-outer.pack-outer in
     let p = at_push.push in
     let x = c.flags-number in
-    let y = at-stop-answer.stop-answer in
-    rw (p.ensures.0, p.ensures.1) (sub-done a.h a.stack.now a.buf.now i.result i.ensures.0 z m.result m.ensures f.result at-if2.if2.false a.f (f.ensures m.result a.f) i.ensures.1 v.result (rw l.ensures at v.ensures) x.result x.ensures.1 y.result y.ensures)
+    rw (p.ensures.0, p.ensures.1) (sub-done a.h a.stack.now a.buf.now i.result i.ensures.0 z m.result m.ensures f.result at-if2.if2.false a.f (f.ensures m.result a.f) i.ensures.1 v.result (rw l.ensures at v.ensures) x.result x.ensures.1)
 
 pub sub-at_spec : {M : Type 1} → statement M
-sub-at_spec = tie.close (tie.spec (λ c κs. search rules) (λ c κs. search rules) returns (λ c κs. search rules) (λ c κs. search rules) (λ c κs. search rules) returns-2 (λ c κs. search rules) (λ c κs. search rules) (λ c κs. search rules) push-requires (λ c κs. search rules) (λ c κs. search rules) returns-3)
+sub-at_spec = tie.close (tie.spec (λ c κs. search rules) (λ c κs. search rules) returns (λ c κs. search rules) (λ c κs. search rules) (λ c κs. search rules) returns-2 (λ c κs. search rules) (λ c κs. search rules) (λ c κs. search rules) push-requires (λ c κs. search rules) returns-3)

@@ -29,5 +29,5 @@ returns-3 c =
     let r = at-is-builder.is-builder in
     λ m. rw c.number3.ensures (endsub-meets a.top a.d m r.result r.ensures at-if2.if2.false at-if1.if1.false)
 
-pub judge-endsub_spec : {M : Type 1} → statement M
-judge-endsub_spec = tie.close (tie.spec (λ c κs. search rules) returns (λ c κs. search rules) (λ c κs. search rules) returns-2 (λ c κs. search rules) returns-3)
+pub judge_endsub_spec : {M : Type 1} → statement M
+judge_endsub_spec = tie.close (tie.spec (λ c κs. search rules) returns (λ c κs. search rules) (λ c κs. search rules) returns-2 (λ c κs. search rules) returns-3)

@@ -22,5 +22,5 @@ returns-2 c =
     let r = at-is-builder.is-builder in
     λ d m. rw c.number2.ensures (finish-meets a.top d m r.result r.ensures (not-false _ at-if1.if1.false))
 
-pub judge-finish_spec : {M : Type 1} → statement M
-judge-finish_spec = tie.close (tie.spec (λ c κs. search rules) (λ c κs. search rules) returns (λ c κs. search rules) returns-2)
+pub judge_finish_spec : {M : Type 1} → statement M
+judge_finish_spec = tie.close (tie.spec (λ c κs. search rules) (λ c κs. search rules) returns (λ c κs. search rules) returns-2)

@@ -26,5 +26,5 @@ returns-2 c =
     let f = c.place-fault in
     λ d m. place-meets a.top d m r.result r.ensures (place_of a.p a.name.now) k.result f.result (not-false _ at-if1.if1.false) k.ensures f.ensures
 
-pub judge-place_spec : {M : Type 1} → statement M
-judge-place_spec = tie.close (tie.spec (λ c κs. search rules) (λ c κs. search rules) returns (λ c κs. search rules) (λ c κs. search rules) returns-2)
+pub judge_place_spec : {M : Type 1} → statement M
+judge_place_spec = tie.close (tie.spec (λ c κs. search rules) (λ c κs. search rules) returns (λ c κs. search rules) (λ c κs. search rules) returns-2)

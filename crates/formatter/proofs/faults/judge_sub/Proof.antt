@@ -35,5 +35,5 @@ returns-3 c =
     let r = at-is-ready.is-ready in
     λ m f. rw c.number3.ensures (ready-meets a.top a.d m (sub f) (λ i. refl) r.result r.ensures (not-false _ at-if1.if1.false) (lt-leb 64 a.d at-if2.if2.false) _ refl)
 
-pub judge-sub_spec : {M : Type 1} → statement M
-judge-sub_spec = tie.close (tie.spec (λ c κs. search rules) (λ c κs. search rules) returns (λ c κs. search rules) returns-2 (λ c κs. search rules) returns-3)
+pub judge_sub_spec : {M : Type 1} → statement M
+judge_sub_spec = tie.close (tie.spec (λ c κs. search rules) (λ c κs. search rules) returns (λ c κs. search rules) returns-2 (λ c κs. search rules) returns-3)

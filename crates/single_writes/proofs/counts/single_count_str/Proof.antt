@@ -7,7 +7,7 @@ use Rattle.formatting.specs.Flags.{default_flags}
 use Rattle.str_writer.specs.Value.{str, display, whole, text_of, input_fault}
 use Rattle.str_writer.proofs.Values.{whole_part}
 use Rattle.calls.specs.Model.{counting, to}
-use Rattle.value_writes.proofs.ValueLaws.{judged-met, judged-counting, value-refused, value-put}
+use Rattle.value_writes.proofs.ValueLaws.{judged-met, judged-counting, value-refused, value-counted}
 use Rattle.single_writes.specs.ByFlags.{from}
 use Rattle.single_writes.proofs.counts.single_count_str.Statement.{statement}
 use Rattle.single_writes.proofs.counts.single_count_str.Tie as tie
@@ -31,7 +31,7 @@ returns-2 c =
     let a = at-fault.before.before.args in
     let s = a.s.now in
     let x = at-fault.str-fault in
-    value-put (from a.total.now) [] default_flags (str display s (whole s)) refl Done (judged-counting (counting a.total.now) (str display s (whole s)) x.result x.ensures at-is-done.is-done.ensures at-if1.if1.false refl) refl refl (c.add.ensures (text_of default_flags (str display s (whole s))) (ap length (sym (whole_part s))))
+    value-counted (from a.total.now) [] default_flags (str display s (whole s)) refl Done (judged-counting (counting a.total.now) (str display s (whole s)) x.result x.ensures at-is-done.is-done.ensures at-if1.if1.false refl) refl refl refl (c.add.ensures (text_of default_flags (str display s (whole s))) (ap length (sym (whole_part s))))
 
 pub single_count_str_spec : {M : Type 1} → statement M
 single_count_str_spec = tie.close (tie.spec (λ c κs. search rules) (λ c κs. search rules) (λ c κs. search rules) returns (λ c κs. search rules) returns-2)

@@ -7,7 +7,7 @@ use Rattle.utils.specs.Text.{part}
 use Rattle.str_writer.specs.Value.{str, debug, whole, text_of, input_fault}
 use Rattle.calls.specs.Model.{counting, to}
 use Rattle.quoted_writes.proofs.Quoting.{count-within}
-use Rattle.value_writes.proofs.ValueLaws.{judged-met, judged-counting, value-refused, value-put, quoted-refused}
+use Rattle.value_writes.proofs.ValueLaws.{judged-met, judged-counting, value-refused, value-counted, quoted-refused}
 use Rattle.single_writes.specs.ByFlags.{from}
 use Rattle.single_writes.proofs.counts.single_count_str_debug.Statement.{statement}
 use Rattle.single_writes.proofs.counts.single_count_str_debug.Tie as tie
@@ -33,7 +33,7 @@ returns-2 c =
     let a = at-fault.before.before.args in
     let s = a.s.now in
     let x = at-fault.str-fault in
-    value-put (from a.total.now) [] default_flags (str debug s (whole s)) refl Done (judged-counting (counting a.total.now) (str debug s (whole s)) x.result x.ensures at-is-done.is-done.ensures at-if1.if1.false refl) refl refl (rw c.number2.ensures (quoted-refused (part s (whole s)) q.result q.ensures a.total.now [] c.before.if2.true))
+    value-counted (from a.total.now) [] default_flags (str debug s (whole s)) refl Done (judged-counting (counting a.total.now) (str debug s (whole s)) x.result x.ensures at-is-done.is-done.ensures at-if1.if1.false refl) refl refl refl (rw c.number2.ensures (quoted-refused (part s (whole s)) q.result q.ensures a.total.now [] c.before.if2.true))
 
 returns-3 : tie.Need-returns-3
 unfolding text_of input_fault
@@ -47,7 +47,7 @@ returns-3 c =
     let a = at-fault.before.before.args in
     let s = a.s.now in
     let x = at-fault.str-fault in
-    value-put (from a.total.now) [] default_flags (str debug s (whole s)) refl Done (judged-counting (counting a.total.now) (str debug s (whole s)) x.result x.ensures at-is-done.is-done.ensures at-if1.if1.false refl) refl refl (c.add.ensures (text_of default_flags (str debug s (whole s))) (count-within (part s (whole s)) q.result q.ensures at-if2.if2.false))
+    value-counted (from a.total.now) [] default_flags (str debug s (whole s)) refl Done (judged-counting (counting a.total.now) (str debug s (whole s)) x.result x.ensures at-is-done.is-done.ensures at-if1.if1.false refl) refl refl refl (c.add.ensures (text_of default_flags (str debug s (whole s))) (count-within (part s (whole s)) q.result q.ensures at-if2.if2.false))
 
 pub single_count_str_debug_spec : {M : Type 1} → statement M
 single_count_str_debug_spec = tie.close (tie.spec (λ c κs. search rules) (λ c κs. search rules) (λ c κs. search rules) returns (λ c κs. search rules) (λ c κs. search rules) returns-2 (λ c κs. search rules) returns-3)

@@ -31,7 +31,7 @@ returns-2 c = λ b e m r.
     judged-whole b a.at (ascii m a.s.now r) _
     (judged-input b a.at (ascii m a.s.now r) _ (d.cursor-fault.ensures b e) (sym p.before.is-done.ensures ∙ not-false _ p.if1.false) _ (c.ascii-fault.ensures m r)) (ascii_uncut m a.s.now r)
 
-pub judge-ascii_spec : {M : Type 1} → statement M
-judge-ascii_spec =
+pub judge_ascii_spec : {M : Type 1} → statement M
+judge_ascii_spec =
     tie.close
     (tie.spec cursor-fault-requires is-done-requires returns ascii-fault-requires returns-2)

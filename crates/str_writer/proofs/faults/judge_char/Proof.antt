@@ -31,7 +31,7 @@ returns-2 c = λ b e m.
     judged-whole b a.at (char m a.c) _
     (judged-input b a.at (char m a.c) _ (d.cursor-fault.ensures b e) (sym p.before.is-done.ensures ∙ not-false _ p.if1.false) _ (c.char-fault.ensures m)) (char_uncut m a.c)
 
-pub judge-char_spec : {M : Type 1} → statement M
-judge-char_spec =
+pub judge_char_spec : {M : Type 1} → statement M
+judge_char_spec =
     tie.close
     (tie.spec cursor-fault-requires is-done-requires returns char-fault-requires returns-2)

@@ -30,7 +30,7 @@ returns-2 c = λ b e m r.
     judged-input b a.at (str m a.s.now r) _ (d.cursor-fault.ensures b e) (sym p.before.is-done.ensures ∙ not-false _ p.if1.false)
     _ (c.str-fault.ensures ∙ str-tested m a.s.now r)
 
-pub judge-str_spec : {M : Type 1} → statement M
-judge-str_spec =
+pub judge_str_spec : {M : Type 1} → statement M
+judge_str_spec =
     tie.close
     (tie.spec cursor-fault-requires is-done-requires returns str-fault-requires returns-2)
