@@ -7,7 +7,7 @@ ghost use Rattle.ascii_str.specs.Ascii.{ascii_from, ascii_answer};
 use error::Answer;
 
 // Whether a text is ASCII, or where its first byte above 127 is.
-#[derive(Drop)]
+#[derive(Clone, Copy)]
 pub enum AsciiStr {
     Ascii,
     NotAsciiError { invalid_from: usize },

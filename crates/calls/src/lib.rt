@@ -5,7 +5,7 @@
 use formatting::FormattingFlags;
 
 // The kind of a builder.
-#[derive(Drop)]
+#[derive(Clone, Copy)]
 pub enum Kind {
     Struct,
     Tuple,
@@ -14,7 +14,7 @@ pub enum Kind {
 }
 
 // What is fixed when a formatter or a counting run is made: the flags that it begins with.
-#[derive(Drop)]
+#[derive(Clone, Copy)]
 pub struct Settings {
     pub flags: FormattingFlags,
 }

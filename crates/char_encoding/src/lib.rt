@@ -10,7 +10,7 @@ use error::Answer;
 use formatting::{Escape, HexFormatting, escape_of, hex_as_ascii};
 
 // A character's octets; the bytes from len on are zero.
-#[derive(Drop)]
+#[derive(Clone, Copy)]
 pub struct Utf8Char {
     pub len: usize,
     pub bytes: [u8; 4],
@@ -18,14 +18,14 @@ pub struct Utf8Char {
 }
 
 // A character's display or quoted form; the bytes from len on are zero.
-#[derive(Drop)]
+#[derive(Clone, Copy)]
 pub struct FmtChar {
     pub len: usize,
     pub encoded: [u8; 6],
     pub answer: Answer,
 }
 
-#[derive(Drop)]
+#[derive(Clone, Copy)]
 pub struct CharLen {
     pub len: usize,
     pub answer: Answer,

@@ -18,13 +18,13 @@ use formatter::{Head, HeadStep, Op, call};
 use run::{Ran, count_run_from};
 use writer_backend::WriterBackend;
 
-#[derive(Drop)]
+#[derive(Clone, Copy)]
 pub struct ComputeStrLength {
     pub len: usize,
 }
 
 // What a length that is added answers, by document 01's number, and the total then.
-#[derive(Drop)]
+#[derive(Clone, Copy)]
 pub struct Added {
     pub answer: u8,
     pub total: usize,
@@ -114,7 +114,7 @@ impl ComputeStrLength {
 }
 
 // The end of a run, what a length added after it answers, by document 01's number, and the total then.
-#[derive(Drop)]
+#[derive(Clone, Copy)]
 pub struct CountedThenAdded {
     pub ran: Ran,
     pub answer: u8,
@@ -142,7 +142,7 @@ pub fn count_run_then_add_len(
 }
 
 // What one call gives, the total then, and whether that is 0.
-#[derive(Drop)]
+#[derive(Clone, Copy)]
 pub struct CountedCall {
     pub step: HeadStep,
     pub total: usize,

@@ -9,7 +9,7 @@ use formatting::{HexFormatting, hex_as_ascii};
 use str_writer::Written;
 
 // How many bytes a field is, or a field of another form.
-#[derive(Drop)]
+#[derive(Clone, Copy)]
 pub enum HexBytes {
     Are(usize),
     NotHex,

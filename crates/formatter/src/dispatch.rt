@@ -25,7 +25,7 @@ use value_writes::{PVariant, cut_fault, put_value, value_fault};
 use writer_backend::{PlaceKind, WriterBackend, Wrote, close, past, place_pieces, put_name};
 
 // A call, whose text is lent beside it. Nothing is what is no call.
-#[derive(Drop)]
+#[derive(Clone, Copy)]
 pub enum Op {
     Open(Kind),
     Place(PlaceKind),
@@ -38,7 +38,7 @@ pub enum Op {
 
 // What every call begins with, once it does not meet 9: how many entries are open, and the number of
 // the innermost. The 9 is no part of it: tested alone, it costs a branch that is never taken.
-#[derive(Drop)]
+#[derive(Clone, Copy)]
 struct Begun {
     depth: usize,
     top: u32,

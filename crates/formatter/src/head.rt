@@ -11,7 +11,7 @@ use writer_backend::WriterBackend;
 
 // Where the text goes, the number of the flags in force, the margin, and how many entries are open.
 // It is whole words, which the compiler keeps apart in registers.
-#[derive(Drop)]
+#[derive(Clone, Copy)]
 pub struct Head {
     pub mode: WriterBackend,
     pub flags: u64,
@@ -60,7 +60,7 @@ impl Head {
 }
 
 // What a call answers, by document 01's number, and the formatter then.
-#[derive(Drop)]
+#[derive(Clone, Copy)]
 pub struct HeadStep {
     pub answer: u8,
     pub head: Head,

@@ -19,14 +19,14 @@ use utils::Range;
 use value_writes::{Form, Integer, PVariant, Width};
 use writer_backend::{PlaceKind, WriterBackend, past};
 
-#[derive(Drop)]
+#[derive(Clone, Copy)]
 pub struct Formatter {
     pub head: Head,
     pub stack: [u32; 64],
 }
 
 // What a call answers, by document 01's number, and the formatter then.
-#[derive(Drop)]
+#[derive(Clone, Copy)]
 pub struct FormatterStep {
     pub answer: u8,
     pub fmt: Formatter,

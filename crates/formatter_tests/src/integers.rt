@@ -7,7 +7,7 @@ use lines::part;
 use utils::slice_up_to_len;
 
 // A value n, or -1 - n where it is below zero, or a field of another form.
-#[derive(Drop)]
+#[derive(Clone, Copy)]
 pub enum Value {
     Is(bool, u64),
     Other,

@@ -21,7 +21,7 @@ pub fn hex_as_ascii(n: u8, hex_fmt: HexFormatting) -> u8
 }
 
 // The letter of a byte's escape.
-#[derive(Drop)]
+#[derive(Clone, Copy)]
 pub enum EscapeLetter {
     // A backslash and this letter stand for the byte.
     Letter(u8),
@@ -45,7 +45,7 @@ pub fn escape_letter(b: u8) -> EscapeLetter
 }
 
 // What stands for a byte between quotation marks.
-#[derive(Drop)]
+#[derive(Clone, Copy)]
 pub enum Escape {
     // The byte itself.
     Bare,

@@ -5,7 +5,7 @@ ghost use Rattle.formatting.specs.declared.flags.NumberFormatting.TheVariants.{D
 ghost use Rattle.formatting.specs.declared.flags.HexFormatting.TheVariants.{Upper, Lower};
 
 // How numbers are written in debug form.
-#[derive(Drop)]
+#[derive(Clone, Copy)]
 pub enum NumberFormatting {
     Decimal,
     Hexadecimal,
@@ -13,13 +13,13 @@ pub enum NumberFormatting {
 }
 
 // The case of the hexadecimal digits above 9.
-#[derive(Drop)]
+#[derive(Clone, Copy)]
 pub enum HexFormatting {
     Upper,
     Lower,
 }
 
-#[derive(Drop)]
+#[derive(Clone, Copy)]
 pub struct FormattingFlags {
     pub num_fmt: NumberFormatting,
     pub hex_fmt: HexFormatting,

@@ -6,7 +6,7 @@ use lines::part;
 use pargument::Integer;
 
 // An integer of one of the eight types.
-#[derive(Drop)]
+#[derive(Clone, Copy)]
 enum Value {
     U8(u8),
     U16(u16),
@@ -19,7 +19,7 @@ enum Value {
 }
 
 // A number in decimal, or a field of another form.
-#[derive(Drop)]
+#[derive(Clone, Copy)]
 enum Signed {
     Plus(u64),
     Minus(u64),

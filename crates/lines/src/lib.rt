@@ -12,7 +12,7 @@ pub const MAX_LINE: usize = 4096;
 
 // What is held of an input between two lines: the bytes from..to of the buffer are read and not yet
 // taken. Whether the input has ended, and whether the bytes begin inside a line that was too long.
-#[derive(Drop)]
+#[derive(Clone, Copy)]
 pub struct Reader {
     pub from: usize,
     pub to: usize,
@@ -21,7 +21,7 @@ pub struct Reader {
 }
 
 // The bytes start..end of the buffer are a line, if there is one; and what is held behind it.
-#[derive(Drop)]
+#[derive(Clone, Copy)]
 pub struct Taken {
     pub is_line: bool,
     pub start: usize,

@@ -9,7 +9,7 @@ ghost use Rattle.pargument.specs.Integer.{integer_of, integer_display, integer_b
 use formatting::{FormattingFlags, hex_as_ascii};
 use pwrapper::{unsigned_abs_i8, unsigned_abs_i16, unsigned_abs_i32, unsigned_abs_i64};
 
-#[derive(Drop)]
+#[derive(Clone, Copy)]
 pub struct Integer {
     pub is_negative: bool,
     pub unsigned: u64,
@@ -18,19 +18,19 @@ pub struct Integer {
 }
 
 // Texts written from the end of an array: the place of the first byte. The bytes before are zero.
-#[derive(Drop)]
+#[derive(Clone, Copy)]
 pub struct StartAndArray66 {
     pub start: usize,
     pub array: [u8; 66],
 }
 
-#[derive(Drop)]
+#[derive(Clone, Copy)]
 pub struct StartAndArray18 {
     pub start: usize,
     pub array: [u8; 18],
 }
 
-#[derive(Drop)]
+#[derive(Clone, Copy)]
 pub struct StartAndArray21 {
     pub start: usize,
     pub array: [u8; 21],

@@ -11,7 +11,7 @@ use formatting::{is_backslash_escaped, is_escaped};
 use utils::{Range, saturate_range};
 
 // A length, or CountTooLarge and 0 where it is above 2^64 - 1.
-#[derive(Drop)]
+#[derive(Clone, Copy)]
 pub struct DebugLen {
     pub len: usize,
     pub answer: Answer,

@@ -19,7 +19,7 @@ use writer_backend::{WriterBackend, past};
 // The end of a run: its first refusal by document 01's number, 0 for none; its total or cursor; the
 // place of the call that was refused first, as many as there are calls where none was; and how many
 // entries are open.
-#[derive(Drop)]
+#[derive(Clone, Copy)]
 pub struct Ran {
     pub first: u8,
     pub number: usize,
@@ -28,7 +28,7 @@ pub struct Ran {
 }
 
 // Where the text went, and how many entries are open.
-#[derive(Drop)]
+#[derive(Clone, Copy)]
 struct End {
     entries: usize,
     mode: WriterBackend,

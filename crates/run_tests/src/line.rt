@@ -4,7 +4,7 @@ use fields::{HexBytes, Number, first_field, from_hex, index_of, later_fields, nu
 use formatting::flags_of;
 
 // How many words and how many bytes of text there are, and whether each call had the form of one.
-#[derive(Drop)]
+#[derive(Clone, Copy)]
 pub struct Run {
     pub words: usize,
     pub text: usize,
@@ -12,7 +12,7 @@ pub struct Run {
 }
 
 // The word of a line by its place, the settings and the number N.
-#[derive(Drop)]
+#[derive(Clone, Copy)]
 pub enum Head {
     Is(u64, Settings, usize),
     Other,

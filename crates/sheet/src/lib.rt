@@ -25,14 +25,14 @@ use utils::slice_up_to_len;
 use writer_backend::WriterBackend;
 
 // The two runs of a sheet, without their stacks and the buffer, which are lent.
-#[derive(Drop)]
+#[derive(Clone, Copy)]
 pub struct Sheet {
     pub counted: Head,
     pub written: Head,
 }
 
 // Whether a line is a call, both runs after it, and the cursor after what it prints.
-#[derive(Drop)]
+#[derive(Clone, Copy)]
 pub struct Answered {
     pub is_call: bool,
     pub sheet: Sheet,
@@ -64,7 +64,7 @@ fn is_call(op: Op) -> bool
 }
 
 // Both runs advanced by a call, and its row.
-#[derive(Drop)]
+#[derive(Clone, Copy)]
 struct Stepped {
     sheet: Sheet,
     row: Row,

@@ -11,7 +11,7 @@ use fields::{put_hex, put_number};
 use str_writer::{Written, put};
 
 // A line number, and the answers of both runs with the total and the cursor.
-#[derive(Drop)]
+#[derive(Clone, Copy)]
 pub struct Row {
     pub line: u64,
     pub counting_answer: u8,

@@ -13,32 +13,32 @@ use lines::MAX_LINE;
 pub const MAX_SIZE: usize = 4096;
 
 // How line 1 begins a run: a buffer's size, a cursor in it, and flags.
-#[derive(Drop)]
+#[derive(Clone, Copy)]
 pub enum Begin {
     Bad,
     BadCursor,
     Fresh(usize, usize, FormattingFlags),
 }
 
-#[derive(Drop)]
+#[derive(Clone, Copy)]
 pub enum Format {
     Base(NumberFormatting),
     NoBase,
 }
 
-#[derive(Drop)]
+#[derive(Clone, Copy)]
 pub enum Digits {
     Case(HexFormatting),
     NoCase,
 }
 
-#[derive(Drop)]
+#[derive(Clone, Copy)]
 pub enum Layout {
     Alternate(bool),
     NoLayout,
 }
 
-#[derive(Drop)]
+#[derive(Clone, Copy)]
 pub enum Flags {
     Are(FormattingFlags),
     NoFlags,

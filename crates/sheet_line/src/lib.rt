@@ -24,7 +24,7 @@ use writer_backend::PlaceKind;
 
 // A call as it was read from a line, `Op::Nothing` for a line of another form, and how long its
 // text is.
-#[derive(Drop)]
+#[derive(Clone, Copy)]
 pub struct Parsed {
     pub op: Op,
     pub len: usize,

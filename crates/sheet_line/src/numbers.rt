@@ -13,7 +13,7 @@ use formatter::Op;
 use value_writes::{Form, Integer, PVariant, Width, greatest};
 
 // The type of an integer.
-#[derive(Drop)]
+#[derive(Clone, Copy)]
 pub enum IntType {
     Unsigned(Width),
     Signed(Width),

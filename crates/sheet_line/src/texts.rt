@@ -14,7 +14,7 @@ use value_writes::{Form, PVariant};
 use writer_backend::PlaceKind;
 
 // An opening with a name, a field of a struct, a string.
-#[derive(Drop)]
+#[derive(Clone, Copy)]
 pub enum TextCall {
     Open(Kind),
     Field,

@@ -23,7 +23,7 @@ const MAX_PRINTED: usize = 8239;
 
 // A sheet between two lines: the number of the next, the size of the buffer, both runs, and whether
 // the run goes on.
-#[derive(Drop)]
+#[derive(Clone, Copy)]
 pub struct State {
     pub line: u64,
     pub size: usize,
@@ -33,7 +33,7 @@ pub struct State {
 
 // What is held between steps: what is read of the input, where the sheet stands, how many bytes are
 // printed and not yet written, and whether more is awaited.
-#[derive(Drop)]
+#[derive(Clone, Copy)]
 pub struct Stream {
     pub reader: Reader,
     pub state: State,
@@ -42,7 +42,7 @@ pub struct Stream {
 }
 
 // The state after a line, and the end of what is printed.
-#[derive(Drop)]
+#[derive(Clone, Copy)]
 struct Told {
     state: State,
     at: usize,

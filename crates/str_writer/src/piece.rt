@@ -11,7 +11,7 @@ use error::Answer;
 use utils::{Range, saturate_range};
 
 // What a write answers, and where the cursor then is.
-#[derive(Drop)]
+#[derive(Clone, Copy)]
 pub struct Written {
     pub at: usize,
     pub answer: Answer,

@@ -102,7 +102,7 @@ impl<'w> StrWriterMut<'w> {
 }
 
 // What two writes answer, and where the cursor then is.
-#[derive(Drop)]
+#[derive(Clone, Copy)]
 pub struct WrittenTwice {
     pub at: usize,
     pub first: Answer,
@@ -126,7 +126,7 @@ pub fn write_str_then_debug(buffer: &mut [u8], length: usize, s: &[u8], t: &[u8]
 }
 
 // What a write and two truncations answer, the length between the two, and where the cursor then is.
-#[derive(Drop)]
+#[derive(Clone, Copy)]
 pub struct Truncated {
     pub at: usize,
     pub len: usize,

@@ -7,7 +7,7 @@ ghost use Rattle.utf8.specs.Utf8.{well_formed, continues, follow};
 ghost use Rattle.utf8.specs.Expected.{ranges};
 
 // What has to follow in a text: how many octets, and the least and the greatest value of the first of them. The others are UTF8-tail.
-#[derive(Drop)]
+#[derive(Clone, Copy)]
 struct Expected(usize, u8, u8);
 
 // Between two characters.

@@ -28,14 +28,14 @@ use str_writer::{
 use utils::{Range, saturate_range};
 use writer_backend::{WriterBackend, Wrote, add_len, answered, from_written, past};
 
-#[derive(Drop)]
+#[derive(Clone, Copy)]
 pub enum Form {
     Display,
     Debug,
 }
 
 // The bits of an integer's type.
-#[derive(Drop)]
+#[derive(Clone, Copy)]
 pub enum Width {
     W8,
     W16,
@@ -44,14 +44,14 @@ pub enum Width {
 }
 
 // An integer by its type.
-#[derive(Drop)]
+#[derive(Clone, Copy)]
 pub enum Integer {
     Unsigned(Width, u64),
     Signed(Width, i64),
 }
 
 // What is written (after PVariant of pargument.rs). A string is a range of the text lent beside it.
-#[derive(Drop)]
+#[derive(Clone, Copy)]
 pub enum PVariant {
     Int(Form, Integer),
     Char(Form, u32),
@@ -62,7 +62,7 @@ pub enum PVariant {
 
 // What the text of an integer is made of, under the flags that it heeds: a sign with an absolute
 // value in decimal, the two's complement otherwise.
-#[derive(Drop)]
+#[derive(Clone, Copy)]
 struct Parts {
     flags: FormattingFlags,
     is_negative: bool,

@@ -19,7 +19,7 @@ const WRITING: u64 = 0;
 const COUNTING: u64 = 1;
 
 // The number is the cursor where text is written, the total where it is counted.
-#[derive(Drop)]
+#[derive(Clone, Copy)]
 pub struct WriterBackend {
     pub mode: u64,
     pub number: usize,
@@ -65,7 +65,7 @@ impl WriterBackend {
 }
 
 // What a piece answers, by document 01's number, and the output then.
-#[derive(Drop)]
+#[derive(Clone, Copy)]
 pub struct Wrote {
     pub answer: u8,
     pub mode: WriterBackend,

@@ -15,7 +15,7 @@ use error::Answer;
 use utf8::is_utf8;
 
 // Where a separator goes: before a field of a struct, one of a tuple, an entry of a list or a set.
-#[derive(Drop)]
+#[derive(Clone, Copy)]
 pub enum PlaceKind {
     Field,
     Item,

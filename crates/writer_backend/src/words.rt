@@ -6,7 +6,7 @@ ghost use Rattle.writer_backend.specs.Words.{text_of_word};
 use calls::Kind;
 
 // Up to three bytes.
-#[derive(Drop)]
+#[derive(Clone, Copy)]
 pub struct Word {
     pub bytes: [u8; 3],
     pub len: usize,

@@ -8,7 +8,7 @@ use str_writer::Written;
 use utils::slice_up_to_len;
 
 // A value of its type.
-#[derive(Drop)]
+#[derive(Clone, Copy)]
 pub enum Integer {
     U8(u8),
     U16(u16),
@@ -21,7 +21,7 @@ pub enum Integer {
 }
 
 // A field as a value, or a field of another form.
-#[derive(Drop)]
+#[derive(Clone, Copy)]
 pub enum Value {
     Is(Integer),
     Other,

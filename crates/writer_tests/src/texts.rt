@@ -5,7 +5,7 @@ use str_writer::Written;
 use utils::{Range, slice_up_to_len};
 
 // What a write gave, or arguments of another form.
-#[derive(Drop)]
+#[derive(Clone, Copy)]
 pub enum Played {
     Gave(Written),
     Other,
