@@ -1,5 +1,5 @@
 -- The lengths of the texts of a number: thresholds of the decimal digits, the sign, the prefix.
-use Rattle.core.specs.Prelude.{◌≡◌, ℕ, ◌+◌, ◌/◌, ◌^◌, ◌<◌, ◌≤◌, Bool, true, false, ◌++◌, length, ℤ, pos, nat_abs}
+use Rattle.std.specs.Prelude.{◌≡◌, ℕ, ◌+◌, ◌/◌, ◌^◌, ◌<◌, ◌≤◌, Bool, true, false, ◌++◌, length, ℤ, pos, nat_abs}
 use mathlib.Core.Path.{ap, ◌∙◌}
 use native.Mathlib.Nat.{le_trans, pow-le-pow_left}
 use native.Mathlib.Omega.{arith}

@@ -1,5 +1,5 @@
 -- What a range of a text reads.
-use Rattle.core.specs.Prelude.{◌≡◌, ℕ, ◌+◌, ◌-◌, ◌≤◌, List, ◌++◌, length, take, drop}
+use Rattle.std.specs.Prelude.{◌≡◌, ℕ, ◌+◌, ◌-◌, ◌≤◌, List, ◌++◌, length, take, drop}
 use mathlib.Core.Path.{sym, ◌∙◌}
 use native.Mathlib.Nat.{min-le_right}
 use native.Mathlib.Omega.{arith}

@@ -1,5 +1,5 @@
 -- A signed number below zero by its complement, and one from zero on, at any width.
-use Rattle.core.specs.Prelude.{◌≡◌, ℕ, suc, ◌+◌, ◌-◌, ◌^◌, ◌<◌, true, false, ltb, ◌∷◌, ℤ, pos, negsuc, nat_abs}
+use Rattle.std.specs.Prelude.{◌≡◌, ℕ, suc, ◌+◌, ◌-◌, ◌^◌, ◌<◌, true, false, ltb, ◌∷◌, ℤ, pos, negsuc, nat_abs}
 use mathlib.Core.Path.{refl, sym, ap, ◌∙◌}
 use native.Mathlib.Omega.{arith}
 use lib.Signed.{lt_z}

@@ -1,5 +1,5 @@
 -- The shortest digits of a number, as core::fmt writes them.
-use Rattle.core.specs.Prelude.{ℕ, zero, suc, ◌+◌, ◌/◌, ◌%◌, cond, List, [], ◌∷◌, ◌++◌, map, nat_lt}
+use Rattle.std.specs.Prelude.{ℕ, zero, suc, ◌+◌, ◌/◌, ◌%◌, cond, List, [], ◌∷◌, ◌++◌, map, nat_lt}
 
 -- Document 01, 'A number': shortest digits, highest first; the first argument bounds how many more may come
 unfoldable pub digits_in : ℕ → ℕ → ℕ → List ℕ

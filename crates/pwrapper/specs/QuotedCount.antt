@@ -1,5 +1,5 @@
 -- Document 01, 'A string': the length of a quoted string.
-use Rattle.core.specs.Prelude.{ℕ, ◌^◌, cond, nat_lt}
+use Rattle.std.specs.Prelude.{ℕ, ◌^◌, cond, nat_lt}
 use Rattle.error.specs.declared.Answer.TheVariants.{Done, CountTooLarge}
 use Rattle.pwrapper.specs.declared.quoted.DebugLen.{DebugLen}
 

@@ -1,5 +1,5 @@
 // The length of the debug form, which follows the flags.
-ghost use Rattle.core.specs.Prelude.{◌≡◌, length, pos};
+ghost use Rattle.std.specs.Prelude.{◌≡◌, length, pos};
 ghost use Rattle.pwrapper.specs.Number.{debug_text};
 
 use crate::display::{

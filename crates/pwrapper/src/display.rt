@@ -1,5 +1,5 @@
 // The length of the decimal text.
-ghost use Rattle.core.specs.Prelude.{◌≡◌, ◌<◌, length, pos};
+ghost use Rattle.std.specs.Prelude.{◌≡◌, ◌<◌, length, pos};
 ghost use Rattle.pwrapper.specs.Number.{decimal, display_text};
 
 use crate::signed::{unsigned_abs_i8, unsigned_abs_i16, unsigned_abs_i32, unsigned_abs_i64};

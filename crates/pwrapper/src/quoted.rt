@@ -1,5 +1,5 @@
 // The length of a quoted string.
-ghost use Rattle.core.specs.Prelude.{◌≡◌, ◌+◌, ◌<◌, ◌≤◌, length};
+ghost use Rattle.std.specs.Prelude.{◌≡◌, ◌+◌, ◌<◌, ◌≤◌, length};
 ghost use Rattle.std.proofs.Math.Seq.{slice};
 ghost use Rattle.error.specs.declared.Answer.TheVariants.{CountTooLarge};
 ghost use Rattle.utils.specs.Text.{part};

@@ -1,5 +1,5 @@
 // The lengths of the hexadecimal and the binary text, from the count of leading zero bits.
-ghost use Rattle.core.specs.Prelude.{◌≡◌, ◌+◌, length};
+ghost use Rattle.std.specs.Prelude.{◌≡◌, ◌+◌, length};
 ghost use Rattle.pwrapper.specs.Digits.{digits};
 ghost use Rattle.pwrapper.specs.Number.{twos_complement, hex_text, bin_text};
 

@@ -1,5 +1,5 @@
 // The absolute value and the two's complement of a signed integer, as unsigned integers.
-ghost use Rattle.core.specs.Prelude.{◌≡◌, unsigned_abs};
+ghost use Rattle.std.specs.Prelude.{◌≡◌, unsigned_abs};
 ghost use Rattle.pwrapper.specs.Number.{twos_complement};
 
 // The absolute value of a u8: the number itself.

@@ -1,5 +1,5 @@
 use borrow.Author.Rules.{rules}
-use Rattle.core.specs.Prelude.{◌≡◌}
+use Rattle.std.specs.Prelude.{◌≡◌}
 use mir.Syntax.{w8}
 use mir.Val.{of_z, to_z}
 use mir.ValLaws.{to_z-of_z}

@@ -1,6 +1,6 @@
 use borrow.Author.Rules.{rules}
 use native.Mathlib.Omega.{arith}
-use Rattle.core.specs.Prelude.{◌/◌, ◌^◌}
+use Rattle.std.specs.Prelude.{◌/◌, ◌^◌}
 use Rattle.pwrapper.proofs.Lengths.{decimal-64, decimal-more}
 use Rattle.pwrapper.proofs.display.number_of_digits_16.Statement.{statement}
 use Rattle.pwrapper.proofs.display.number_of_digits_16.Tie as tie

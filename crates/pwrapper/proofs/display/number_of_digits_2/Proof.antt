@@ -1,5 +1,5 @@
 use native.Mathlib.Omega.{arith}
-use Rattle.core.specs.Prelude.{◌/◌}
+use Rattle.std.specs.Prelude.{◌/◌}
 use Rattle.pwrapper.proofs.Lengths.{decimal-one, decimal-more}
 use Rattle.pwrapper.proofs.display.number_of_digits_2.Statement.{statement}
 use Rattle.pwrapper.proofs.display.number_of_digits_2.Tie as tie

@@ -1,4 +1,4 @@
-use Rattle.core.specs.Prelude.{◌≡◌, ◌-◌, ◌≤◌, length, take, drop}
+use Rattle.std.specs.Prelude.{◌≡◌, ◌-◌, ◌≤◌, length, take, drop}
 use borrow.Author.Rules.{rules}
 use Rattle.utils.specs.Text.{part}
 use Rattle.pwrapper.proofs.Ranges.{clamped_order, clamped_end, clamped_part}

@@ -1,4 +1,4 @@
-use Rattle.core.specs.Prelude.{◌≡◌}
+use Rattle.std.specs.Prelude.{◌≡◌}
 use mathlib.Core.Path.{sym, ◌∙◌}
 use native.Mathlib.Omega.{arith}
 use Rattle.formatting.specs.declared.escaping.EscapeLetter.TheVariants.{None}

@@ -1,7 +1,7 @@
 use borrow.Author.Rules.{rules}
 use native.Mathlib.Omega.{arith}
 use mathlib.Core.Path.{sym, ◌∙◌}
-use Rattle.core.specs.Prelude.{ℕ, ◌+◌}
+use Rattle.std.specs.Prelude.{ℕ, ◌+◌}
 use Rattle.pwrapper.proofs.Escapes.{count_fits, count-passes}
 use Rattle.pwrapper.proofs.quoted.debug_len.Statement.{statement}
 use Rattle.pwrapper.proofs.quoted.debug_len.Tie as tie
