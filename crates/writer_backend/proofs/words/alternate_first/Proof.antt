@@ -1,6 +1,0 @@
-use borrow.Author.Rules.{rules}
-use Rattle.writer_backend.proofs.words.alternate_first.Statement.{statement}
-use Rattle.writer_backend.proofs.words.alternate_first.Tie as tie
-
-pub alternate-first_spec : {M : Type 1} → statement M
-alternate-first_spec = tie.close (tie.spec (λ c. search rules) (λ c. search rules) (λ c. search rules) (λ c. search rules) (λ c. rw c.enum_told.given.1) (λ c. rw c.enum-told2.given.1) (λ c. rw c.enum-told3.given.1) (λ c. rw c.enum-told4.given.1))
