@@ -1,0 +1,12 @@
+use Rattle.pwrapper.proofs.Ranges.{clamped_order, clamped_part}
+use Rattle.quoted_writes.proofs.put_quoted_part.Goals as goal
+
+pub slice_bounds-put_quoted-count : goal.slice_bounds-put_quoted-count
+slice_bounds-put_quoted-count c = let q = c.saturate_range-clamped in
+    let a = c.args in
+    clamped_order a.s.now a.range q.result q.ensures
+
+pub returns : goal.returns
+returns c = let a = c.args in
+    let q = c.saturate_range-clamped in
+    rw (clamped_part a.s.now a.range q.result q.ensures) at c.put_quoted.ensures

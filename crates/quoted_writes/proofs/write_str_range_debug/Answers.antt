@@ -1,0 +1,31 @@
+use mathlib.Core.Path.{◌≡◌, refl, sym, ◌∙◌}
+use Rattle.error.specs.Answer.{answer_of}
+use Rattle.formatting.specs.Flags.{default_flags}
+use Rattle.str_writer.specs.Value.{str, debug}
+use Rattle.str_writer.specs.Write.{write_fault}
+use Rattle.str_writer.proofs.Judging.{judged-met, judged-cut, write-met, str-emit}
+use Rattle.quoted_writes.proofs.write_str_range_debug.Goals as goal
+
+pub returns-then-not-is_done : goal.returns-then-not-is_done
+returns-then-not-is_done c = let a = c.args in
+    let v = str debug a.s.now a.range in
+    let n = sym c.is_done.ensures ∙ c.if-not-is_done.true in
+    write-met default_flags a.buf.now a.at v _ (judged-met a.buf.now a.at v _ (c.judge_str-fault.ensures a.buf.now refl debug a.range) n) n
+
+pub returns-then-not-is_done-2 : goal.returns-then-not-is_done-2
+returns-then-not-is_done-2 c =
+    let a = c.args in
+    -- where the cursor and the text are fine, the range tells
+    let told : c.range_fault-cut.result ≡ answer_of (write_fault a.buf.now a.at (str debug a.s.now a.range)) =
+    judged-cut a.buf.now a.at (str debug a.s.now a.range) _ (c.judge_str-fault.ensures a.buf.now refl debug a.range)
+    (sym c.is_done.ensures ∙ c.if-not-is_done.false) _ (c.range_fault-cut.ensures debug) in
+    write-met default_flags a.buf.now a.at (str debug a.s.now a.range) _ told (sym c.is_done-2.ensures ∙ c.if-not-is_done-2.true)
+
+pub returns : goal.returns
+returns c =
+    let a = c.args in
+    -- where the cursor and the text are fine, the range tells
+    let told : c.range_fault-cut.result ≡ answer_of (write_fault a.buf.now a.at (str debug a.s.now a.range)) =
+    judged-cut a.buf.now a.at (str debug a.s.now a.range) _ (c.judge_str-fault.ensures a.buf.now refl debug a.range)
+    (sym c.is_done.ensures ∙ c.if-not-is_done.false) _ (c.range_fault-cut.ensures debug) in
+    c.put_quoted_part.ensures ∙ str-emit default_flags a.buf.now a.at _ debug a.s.now a.range told (sym c.is_done-2.ensures ∙ c.if-not-is_done-2.false)
