@@ -56,11 +56,11 @@ by_done BadCursor = refl
 
 -- what `!fault.is_done()` tells of a fault's number
 module _ (a : Answer) {d : Bool} (t : d ≡ is_done a) where
-  pub number-met : not d ≡ true → number_of a ≡ suc (number_of a - 1)
-  number-met n = let q : is_done a ≡ false = sym t ∙ not-true d n in rw q at (by_done a)
+  pub number-met : d ≡ false → number_of a ≡ suc (number_of a - 1)
+  number-met n = let q : is_done a ≡ false = sym t ∙ n in rw q at (by_done a)
 
-  pub number-done : not d ≡ false → number_of a ≡ 0
-  number-done n = let q : is_done a ≡ true = sym t ∙ not-false d n in rw q at (by_done a)
+  pub number-done : d ≡ true → number_of a ≡ 0
+  number-done n = let q : is_done a ≡ true = sym t ∙ n in rw q at (by_done a)
 
 -- a value that no range cuts is judged by its input
 pub judged_uncut : (m : Mode) (v : Value) (a : Answer) → a ≡ answer_of (input_fault v) → cut_fault v ≡ none → number_of a ≡ judged_in m v
@@ -69,13 +69,13 @@ judged_uncut (writing p) v a e u = rw (e, u) (sym (hold-zero (fault_number (inpu
 
 -- a string: 4, then 3 in writing
 module _ (m : Mode) (v : Value) (a : Answer) (e : a ≡ answer_of (input_fault v)) {d : Bool} (t : d ≡ is_done a) where
-  pub judged-met : not d ≡ true → number_of a ≡ judged_in m v
+  pub judged-met : d ≡ false → number_of a ≡ judged_in m v
   judged-met n = rw (← e, number-met a t n)
 
-  pub judged-counting : not d ≡ false → {n : ℕ} → m ≡ counting n → 0 ≡ judged_in m v
+  pub judged-counting : d ≡ true → {n : ℕ} → m ≡ counting n → 0 ≡ judged_in m v
   judged-counting n q = rw (← e, number-done a t n, q)
 
-  pub judged-writing : not d ≡ false → {n : ℕ} → m ≡ writing n → {r : Answer} → r ≡ answer_of (cut_fault v) → number_of r ≡ judged_in m v
+  pub judged-writing : d ≡ true → {n : ℕ} → m ≡ writing n → {r : Answer} → r ≡ answer_of (cut_fault v) → number_of r ≡ judged_in m v
   judged-writing n q h = rw (← e, number-done a t n, q, h)
 
 module _ (m : WriterBackend) (b : List ℕ) (f : FormattingFlags) (v : Value) where
@@ -87,18 +87,18 @@ module _ (m : WriterBackend) (b : List ℕ) (f : FormattingFlags) (v : Value) wh
 
   -- a cursor within the bytes: a fault that is met is answered, else the text is counted or placed
   module _ (h : beyond (mode_of m) b ≡ 0) (a : Answer) (e : number_of a ≡ judged_in (mode_of m) v) {d : Bool} (t : d ≡ is_done a) where
-    pub value-refused : not d ≡ true → {r : PieceOutcome} → r ≡ to (mode_of m) b (number_of a) → r ≡ value_out m b f v
+    pub value-refused : d ≡ false → {r : PieceOutcome} → r ≡ to (mode_of m) b (number_of a) → r ≡ value_out m b f v
     unfolding value_out
     value-refused n p = p ∙ rw (h, ← e, number-met a t n)
 
-    emitted : not d ≡ false → put (output_of m b) (text_of f v) ≡ value_out m b f v
+    emitted : d ≡ true → put (output_of m b) (text_of f v) ≡ value_out m b f v
     unfolding value_out
     emitted n = rw (h, ← e, number-done a t n)
 
-    pub value-counted : not d ≡ false → mode_of m ≡ counting m.number → {r : PieceOutcome} → r ≡ put_in (mode_of m) b (text_of f v) → r ≡ value_out m b f v
+    pub value-counted : d ≡ true → mode_of m ≡ counting m.number → {r : PieceOutcome} → r ≡ put_in (mode_of m) b (text_of f v) → r ≡ value_out m b f v
     value-counted n q p = p ∙ (rw q) ∙ emitted n
 
-    pub value-placed : not d ≡ false → mode_of m ≡ writing m.number → {o : Outcome} → o ≡ put_text b m.number (text_of f v) → wrote o ≡ value_out m b f v
+    pub value-placed : d ≡ true → mode_of m ≡ writing m.number → {o : Outcome} → o ≡ put_text b m.number (text_of f v) → wrote o ≡ value_out m b f v
     unfolding put_text
     value-placed n q p = ap wrote p ∙ by_test (ltb (length b) m.number) (placed b m.number (text_of f v)) (rw q at h) ∙ (rw q) ∙ emitted n
       where
