@@ -1,0 +1,25 @@
+-- The loop's invariant: the pairs of the rest, laid from here on, give the buffer with all pairs. The measure is how many bytes are left.
+use mathlib.Core.Path.{◌≡◌, refl, sym, ◌∙◌}
+use Prim.Native.Nat.{◌+◌, ◌-◌, ◌*◌, ◌≤◌}
+use native.Mathlib.Omega.{arith}
+use borrow.Author.Rules.{rules}
+use lib.ListN.{length, drop, length-set}
+use Rattle.str_writer.specs.Write.{splice}
+use Rattle.fields.specs.Hex.{hex_pairs}
+use Rattle.fields.proofs.Pairs.{pairs-length, lay_next, lay_end}
+use Rattle.fields.proofs.hex.lay_pairs.Goals as goal
+
+pub loop-i-init : goal.loop-i-init
+loop-i-init c = let a = c.args in
+    let e : a.at + 0 ≡ a.at = omega arith in
+    (omega arith, omega (arith, pairs-length a.s.now), refl, rw e)
+
+pub loop-i-preserved : goal.loop-i-preserved
+loop-i-preserved c = let a = c.args in
+    let i = c.loop-i.i in
+    let n = lay_next c.loop-i.buf a.at a.s.now i c.hex_as_ascii.result c.hex_as_ascii-in-loop-i.result (omega arith) (omega (arith, c.shared_slice_known-in-loop-i-1.given i)) c.loop-i.invariant.1 c.hex_as_ascii.ensures c.hex_as_ascii-in-loop-i.ensures in
+    (omega arith, simp length-set c.loop-i.invariant.1, simp length-set c.loop-i.invariant.2, n ∙ c.loop-i.invariant.3)
+
+pub returns : goal.returns
+returns c = let a = c.args in
+    sym (lay_end c.loop-i.buf a.at a.s.now c.loop-i.i (omega arith)) ∙ c.loop-i.invariant.3

@@ -1,0 +1,17 @@
+-- The loop's invariant: the pairs of the rest, laid from here on, give the buffer with all pairs. The measure is how many bytes are left.
+use mathlib.Core.Path.{◌≡◌, refl, sym, ◌∙◌}
+use Prim.Native.Nat.{◌+◌, ◌-◌, ◌*◌, ◌≤◌}
+use native.Mathlib.Omega.{arith}
+use borrow.Author.Rules.{rules}
+use lib.ListN.{length, drop, length-set}
+use Rattle.str_writer.specs.Write.{splice}
+use Rattle.fields.specs.Hex.{hex_pairs}
+use Rattle.fields.proofs.Pairs.{pairs-length, lay_next, lay_end}
+use Rattle.fields.proofs.hex.lay_pairs.Given as goal
+
+abbrev pub invariant-loop-i : goal.invariant-loop-i
+invariant-loop-i l = (l.i ≤ length l.s) × (l.at + 2 * length l.s ≤ length l.buf) × (length l.buf ≡ length l.initial.buf)
+    × (splice l.buf (l.at + 2 * l.i) (hex_pairs (drop l.i l.s)) ≡ splice l.initial.buf l.at (hex_pairs l.s))
+
+abbrev pub decreases-loop-i : goal.decreases-loop-i
+decreases-loop-i l = length l.s - l.i
