@@ -1,7 +1,7 @@
 -- Each outcome of a call on a head, a stack of numbers and the bytes is the model's step.
 use mathlib.Core.Bool.{Bool, true, false, cond, ◌||◌}
 use mathlib.Core.Option.{Option, none, some}
-use mathlib.Core.Path.{◌≡◌, refl, sym, ap, ◌∙◌}
+use mathlib.Core.Path.{◌≡◌, refl, sym, ap, subst, ◌∙◌}
 use mathlib.Core.List.{List, [], ◌∷◌}
 use Prim.Native.Nat.{ℕ, zero, suc, ◌+◌, ◌-◌, ◌≤◌, ◌<◌}
 use native.Mathlib.Omega.{arith}
@@ -37,9 +37,14 @@ stack_set s (suc d) i v h = rw (get_or-set_other s i d v 0 (omega arith), stack_
 stack_push : (s : List ℕ) (d v : ℕ) → d < length s → stack_of (set s d v) (d + 1) ≡ entry_of v ∷ stack_of s d
 stack_push s d v h = rw (add-one, get_or-set_same s d v 0 h, stack_set s d d v (omega arith))
 
+replaced : (s : List ℕ) (d v j : ℕ) → j ≡ d → d < length s → stack_of (set s j v) (suc d) ≡ entry_of v ∷ stack_of s j
+replaced s d v j e h =
+    let same : stack_of (set s d v) (suc d) ≡ entry_of v ∷ stack_of s d = rw add-one at (stack_push s d v h) in
+    subst (λ (x : ℕ). stack_of (set s x v) (suc d) ≡ entry_of v ∷ stack_of s x) (sym e) same
+
 stack_replace : (s : List ℕ) (d v : ℕ) → 0 < d → d ≤ length s → stack_of (set s (d - 1) v) d ≡ entry_of v ∷ stack_of s (d - 1)
 stack_replace s zero v z h = absurd (omega arith)
-stack_replace s (suc d) v z h = let e : suc d - 1 ≡ d = omega arith in rw (e, get_or-set_same s d v 0 (omega arith), stack_set s d d v (omega arith))
+stack_replace s (suc d) v z h = replaced s d v (suc d - 1) (omega arith) (omega arith)
 
 -- a builder is innermost, or a sub-formatter
 pub some-builder : (s : List ℕ) (d n : ℕ) → n ≡ top_of s d → is_builder n ≡ true → 0 < d

@@ -1,0 +1,11 @@
+use mir.Syntax.{w64}
+use mir.ValLaws.{to_z-of_z}
+use Rattle.formatting.specs.Flags.{default_flags}
+use Rattle.str_writer.specs.Value.{display, text_of}
+use borrow.Author.Rules.{rules}
+use Rattle.single_writes.proofs.Counting.{counts-integer}
+use Rattle.single_writes.proofs.counts.single_count_i64_display.Goals as goal
+
+pub returns : goal.returns
+unfolding text_of
+returns c = counts-integer c.args.total.now default_flags display 64 c.args.x c.add.ensures (rw (to_z-of_z w64 c.args.x c.ranges.x) at c.compute_display_len_i64.ensures)

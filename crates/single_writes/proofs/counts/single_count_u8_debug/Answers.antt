@@ -1,0 +1,17 @@
+use mathlib.Core.Path.{refl}
+use lib.IntN.{pos}
+use native.Mathlib.Omega.{arith}
+use borrow.Author.Tests.{lt-ltb, le-ltb}
+use Rattle.formatting.specs.FlagsAsNumber.{flags_of}
+use Rattle.str_writer.specs.Value.{debug, text_of}
+use borrow.Author.Rules.{rules}
+use Rattle.single_writes.proofs.Counting.{counts-integer}
+use Rattle.single_writes.proofs.counts.single_count_u8_debug.Goals as goal
+
+pub returns-then-flags-ge12 : goal.returns-then-flags-ge12
+returns-then-flags-ge12 c = rw (le-ltb c.args.flags 12 (omega arith), c.number.ensures) refl
+
+pub returns : goal.returns
+unfolding text_of
+returns c = rw (lt-ltb c.args.flags 12 (omega arith))
+    (counts-integer c.args.total.now (flags_of c.args.flags) debug 8 (pos c.args.x) c.add.ensures (rw c.flags_of.ensures at c.compute_debug_len_u8.ensures))

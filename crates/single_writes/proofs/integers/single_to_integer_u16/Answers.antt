@@ -1,0 +1,6 @@
+use mathlib.Core.Path.{◌∙◌}
+use borrow.Author.Rules.{rules}
+use Rattle.single_writes.proofs.integers.single_to_integer_u16.Goals as goal
+
+pub returns : goal.returns
+returns c = c.leave.ensures ∙ c.to_integer_u16.ensures

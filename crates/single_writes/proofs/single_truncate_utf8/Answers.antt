@@ -1,0 +1,8 @@
+use mathlib.Core.Path.{ap, ◌∙◌}
+use borrow.Author.Rules.{rules}
+use Rattle.str_writer.specs.Write.{outcome}
+use Rattle.calls.specs.Model.{wrote}
+use Rattle.single_writes.proofs.single_truncate_utf8.Goals as goal
+
+pub returns : goal.returns
+returns c = c.answered.ensures _ ∙ ap (λ w. wrote (outcome w c.args.buf.now)) c.truncate_utf8-w.ensures
