@@ -4,15 +4,15 @@
 ghost use Rattle.lines.specs.Reading.{More};
 
 use lines::{Reader, shift};
+use std::io::Read;
 
 // Moves the bytes that are held to the beginning of the buffer and reads once behind them. Where
-// nothing was read, the input has ended.
-pub fn read_more(r: Reader, input: i32, space: &mut [u8]) -> Reader
+// nothing was read, or the read failed, the input has ended.
+pub fn read_more<R: Read>(r: Reader, input: &mut R, space: &mut [u8]) -> Reader
     ensures { More r result space.old space.new }
 {
     let n = shift(space, r.from, r.to);
-    let got = libc::read(input, &mut space[n..]);
-    let more = io::count(got, &space[n..]);
+    let more = input.read(&mut space[n..]).unwrap_or(0);
     Reader {
         from: 0,
         to: n + more,
