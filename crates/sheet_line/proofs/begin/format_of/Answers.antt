@@ -1,0 +1,19 @@
+use borrow.Author.Rules.{rules}
+use Rattle.sheet_line.specs.Begin.{format_of}
+use Rattle.sheet_line.proofs.begin.format_of.Goals as goal
+
+pub returns-then-same : goal.returns-then-same
+unfolding format_of
+returns-then-same c = rw (← c.same.ensures, c.if-same.true)
+
+pub returns-then-same-2 : goal.returns-then-same-2
+unfolding format_of
+returns-then-same-2 c = rw (← c.same.ensures, c.if-same.false, ← c.same-2.ensures, c.if-same-2.true)
+
+pub returns-then-same-3 : goal.returns-then-same-3
+unfolding format_of
+returns-then-same-3 c = rw (← c.same.ensures, c.if-same.false, ← c.same-2.ensures, c.if-same-2.false, ← c.same-3.ensures, c.if-same-3.true)
+
+pub returns : goal.returns
+unfolding format_of
+returns c = rw (← c.same.ensures, c.if-same.false, ← c.same-2.ensures, c.if-same-2.false, ← c.same-3.ensures, c.if-same-3.false)

@@ -1,0 +1,7 @@
+use native.Mathlib.Omega.{arith}
+use borrow.Author.Rules.{rules}
+use Rattle.sheet_line.proofs.Decimals.{complement}
+use Rattle.sheet_line.proofs.numbers.negative_op.Goals as goal
+
+pub returns : goal.returns
+returns c = rw (← complement c.args.m c.if-m-eq0.false (omega arith))
