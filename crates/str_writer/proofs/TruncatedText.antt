@@ -1,4 +1,4 @@
--- A truncation to the cursor succeeds; one of a is_well_formed text exactly if what it leaves is is_well_formed; one to a remembered length always.
+-- A truncation to the cursor succeeds; one of a well-formed text exactly if what it leaves is well-formed; one to a remembered length always.
 use mathlib.Core.Bool.{Bool, true, false, cond, and-eq-true_iff}
 use mathlib.Core.Logic.{dite}
 use mathlib.Core.List.{List, [], ◌∷◌, append_assoc}
@@ -28,7 +28,7 @@ end-is_boundary b at h = (
   λ n k. sym (utf8_tested b at n h (omega arith) (is_boundary b n) (boundary_inside b at h n k)),
 )
 
--- a length that is not above the cursor is a boundary of the text exactly if what stands before it is is_well_formed
+-- a length that is not above the cursor is a boundary of the text exactly if what stands before it is well-formed
 left_well_formed : (b : List ℕ) (at n : ℕ) → at ≤ length b → well_formed (take at b) ≡ true → n ≤ at → is_boundary (take at b) n ≡ well_formed (take n b)
 left_well_formed b at n h e k =
     boundary_well_formed (take at b) n (rw (length-take-le at b h) k) e ∙ ap well_formed (take-take n at b k)
@@ -44,7 +44,7 @@ truncates_well_formed b at n h e =
 abbrev Since : List ℕ → ℕ → Outcome → Type 0
 Since b p o = (p ≤ o.written.at) × (o.written.at ≤ length o.bytes) × (take p o.bytes ≡ take p b)
 
--- the same, and the text is is_well_formed
+-- the same, and the text is well-formed
 abbrev Remembered : List ℕ → ℕ → Outcome → Type 0
 Remembered b p o = Since b p o × Kept o
 

@@ -1,4 +1,4 @@
--- Laws of is_well_formed text: ASCII text, text between marks, quoted text, and parts that begin and end at boundaries.
+-- Laws of well-formed text: ASCII text, text between marks, quoted text, and parts that begin and end at boundaries.
 use mathlib.Core.Bool.{Bool, true, false, ◌&&◌, false≢true, and-eq-true_iff}
 use mathlib.Core.Logic.{dite}
 use mathlib.Core.List.{List, [], ◌∷◌, ◌++◌, append-nil}
@@ -129,7 +129,7 @@ module _ (s : List ℕ) (i : ℕ) (e : well_formed s ≡ true) (k : is_boundary 
   pub drop_well_formed : well_formed (drop i s) ≡ true
   drop_well_formed = sym (append (take i s) (drop i s) take_well_formed) ∙ ap well_formed (take-append-drop i s) ∙ e
 
--- a is_well_formed text begins at a boundary
+-- a well-formed text begins at a boundary
 begins_well_formed : (s : List ℕ) → well_formed s ≡ true → is_boundary s 0 ≡ true
 unfolding continues
 begins_well_formed [] e = refl
@@ -147,7 +147,7 @@ boundary_drop s zero h = refl
 boundary_drop [] (suc i) h = absurd (omega (arith, h))
 boundary_drop (a ∷ s) (suc i) h = boundary_suc a s i ∙ boundary_drop s i (omega (arith, h))
 
--- a place of a is_well_formed text is a boundary exactly if what stands before it is is_well_formed
+-- a place of a well-formed text is a boundary exactly if what stands before it is well-formed
 pub boundary_well_formed : (s : List ℕ) (i : ℕ) → i ≤ length s → well_formed s ≡ true → is_boundary s i ≡ well_formed (take i s)
 boundary_well_formed s i h e = go (is_boundary s i) refl (well_formed (take i s)) refl
   where

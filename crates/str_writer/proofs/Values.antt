@@ -33,7 +33,7 @@ whole-end s = min-eq_left (le_refl (length s))
 pub whole_part : (s : List ℕ) → part s (whole s) ≡ s
 whole_part s = rw (zero-min, whole-end, take-length)
 
--- the first octet of is_well_formed text is no tail
+-- the first octet of well-formed text is no tail
 first_boundary : (a : ℕ) (s : List ℕ) → well_formed (a ∷ s) ≡ true → (ltb a 0x80 || ltb 0xBF a) ≡ true
 unfolding continues
 first_boundary a s e =
@@ -41,7 +41,7 @@ first_boundary a s e =
     (λ h. dite (dec_lt 0xBF a) (λ k. rw (lt-ltb 0xBF a k) (or-true (ltb a 0x80)))
     (λ k. absurd (false≢true (sym (broken s) ∙ rw (none-low a (omega arith) (omega arith)) at e))))
 
--- is_well_formed text has a boundary at its start, and any text at its end
+-- well-formed text has a boundary at its start, and any text at its end
 pub start_boundary : (s : List ℕ) → well_formed s ≡ true → is_boundary s 0 ≡ true
 start_boundary [] e = refl
 start_boundary (a ∷ s) e = rw (lt-ltb 0 (length (a ∷ s)) (omega arith)) (first_boundary a s e)
@@ -82,7 +82,7 @@ module _ (m : Form) (s : List ℕ) (r : Range) where
   unfolding cut_fault
   ascii_uncut = refl
 
--- the whole of a is_well_formed text cuts no character
+-- the whole of a well-formed text cuts no character
 pub whole_uncut : (m : Form) (s : List ℕ) → well_formed s ≡ true → cut_fault (str m s (whole s)) ≡ none
 whole_uncut m s e =
     str_uncut m s (whole s)

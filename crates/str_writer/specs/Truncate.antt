@@ -34,7 +34,7 @@ EndIsBoundary =
     (truncated_utf8 b at at ≡ record { at = at; answer = Done })
     × ((n : ℕ) → n < at → truncated_utf8 b at n ≡ cond (is_boundary b n) (record { at = n; answer = Done }) (record { at = at; answer = NotOnCharBoundary }))
 
--- Ticket 2: truncating a is_well_formed text succeeds exactly if what it leaves is is_well_formed, and else answers 3
+-- Ticket 2: truncating a well-formed text succeeds exactly if what it leaves is well-formed, and else answers 3
 abbrev pub TruncatesWellFormed : Type 0
 TruncatesWellFormed =
     (b : List ℕ) (at n : ℕ) → at ≤ length b → well_formed (take at b) ≡ true →
@@ -57,7 +57,7 @@ none_below p [] = true
 none_below p (writing f v ∷ cs) = none_below p cs
 none_below p (truncating n ∷ cs) = leb p n && none_below p cs
 
--- Ticket 2, a half-made line dropped: from a cursor p behind a is_well_formed text, after any calls none of which truncates to below p, truncating to p succeeds and leaves that text
+-- Ticket 2, a half-made line dropped: from a cursor p behind a well-formed text, after any calls none of which truncates to below p, truncating to p succeeds and leaves that text
 abbrev pub TruncatesBack : Type 0
 TruncatesBack =
     (b : List ℕ) (p : ℕ) (cs : List WriterCall) → p ≤ length b → well_formed (take p b) ≡ true → none_below p cs ≡ true →

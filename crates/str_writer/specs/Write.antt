@@ -58,7 +58,7 @@ write_fault b at v = first_of (cursor_fault b at ∷ input_fault v ∷ cut_fault
 unfoldable pub write : FormattingFlags → List ℕ → ℕ → Value → Outcome
 write f b at v = unless (write_fault b at v) b at (placed b at (text_of f v))
 
--- 'The writer': a write keeps the text before the cursor is_well_formed
+-- 'The writer': a write keeps the text before the cursor well-formed
 abbrev pub KeepsWellFormed : Type 0
 KeepsWellFormed =
     (f : FormattingFlags) (b : List ℕ) (at : ℕ) (v : Value) → well_formed (take at b) ≡ true →

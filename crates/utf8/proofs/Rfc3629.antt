@@ -11,7 +11,7 @@ use borrow.Author.Tests.{lt-ltb, le-ltb, le-leb, lt-leb}
 use Rattle.utf8.specs.Utf8.{SectionsAgree, is_scalar, octets, encode, all_scalar, Octets, within, follow, continues, well_formed}
 use Rattle.utf8.proofs.Grammar.{First, one, two, three, three-E0, three-ED, four, four-F0, four-F4, Said, nothing, first, said, follows, inside, broken}
 
--- is_well_formed text in front changes nothing, also where it begins inside a character
+-- well-formed text in front changes nothing, also where it begins inside a character
 append-from : (s t : List ℕ) (o : Option (List Octets)) → continues s o ≡ true → continues (s ++ t) o ≡ well_formed t
 unfolding continues
 append-from [] t none e = absurd (false≢true e)
@@ -101,7 +101,7 @@ decode {a} (four h) (next {b} p (next {b = d} q (next {b = f} r end))) = number-
 decode {a} (four-F0 h) (next {b} p (next {b = d} q (next {b = f} r end))) = number-4 a b d f (omega arith)
 decode {a} (four-F4 h) (next {b} p (next {b = d} q (next {b = f} r end))) = number-4 a b d f (omega arith)
 
--- a character of section 4 is is_well_formed text
+-- a character of section 4 is well-formed text
 each : {rs : List Octets} {bs : List ℕ} → Each rs bs → continues bs (some rs) ≡ true
 unfolding continues
 each end = refl

@@ -1,4 +1,4 @@
--- UTF-8 as RFC 3629 has it: the octets of a character number (section 3), and is_well_formed text (section 4). Numbers in its comments are hexadecimal.
+-- UTF-8 as RFC 3629 has it: the octets of a character number (section 3), and well-formed text (section 4). Numbers in its comments are hexadecimal.
 use Rattle.std.specs.Prelude.{Bool, true, false, cond, ◌&&◌, ◌||◌, ◌≡◌, ◌↔◌, List, [], ◌∷◌, ◌++◌, ℕ, ◌+◌, ◌/◌, ◌%◌, leb, ltb, eqb}
 use Rattle.std.proofs.Math.Option.{Option, none, some}
 
@@ -24,7 +24,7 @@ abbrev pub all_scalar : List ℕ → Bool
 all_scalar [] = true
 all_scalar (c ∷ cs) = is_scalar c && all_scalar cs
 
--- RFC 3629 section 4: a range of octets, such as %x_c2-DF
+-- RFC 3629 section 4: a range of octets, such as %xC2-DF
 pub record Octets : Type 0 where
   pub low : ℕ
   pub high : ℕ
@@ -64,6 +64,6 @@ continues (a ∷ s) (some (r ∷ rs)) = within r a && continues s (some rs)
 abbrev pub well_formed : List ℕ → Bool
 well_formed s = continues s (some [])
 
--- RFC 3629 sections 3 and 4 agree: is_well_formed text is exactly the octets of scalar values, one after another
+-- RFC 3629 sections 3 and 4 agree: well-formed text is exactly the octets of scalar values, one after another
 abbrev pub SectionsAgree : Type 0
 SectionsAgree = (s : List ℕ) → (well_formed s ≡ true) ↔ ((cs : List ℕ) × (all_scalar cs ≡ true) × (encode cs ≡ s))

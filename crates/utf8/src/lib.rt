@@ -83,7 +83,7 @@ fn greatest(s: &[u8]) -> u8
     most
 }
 
-// Whether s is is_well_formed, octet by octet.
+// Whether s is well-formed, octet by octet.
 fn by_octets(s: &[u8]) -> bool
     ensures { result ≡ well_formed s.now }
 {
@@ -110,7 +110,7 @@ fn is_ascii(s: &[u8]) -> bool
     true
 }
 
-// Whether s is is_well_formed. The greatest byte is found many bytes at a time, and tells whether all
+// Whether s is well-formed. The greatest byte is found many bytes at a time, and tells whether all
 // are ASCII.
 fn is_long_utf8(s: &[u8]) -> bool
     ensures { result ≡ well_formed s.now }
@@ -121,7 +121,7 @@ fn is_long_utf8(s: &[u8]) -> bool
     by_octets(s)
 }
 
-// Whether s is is_well_formed UTF-8. A short text is nearly always ASCII, and that is found out here, in
+// Whether s is well-formed UTF-8. A short text is nearly always ASCII, and that is found out here, in
 // few steps: the compiler can lay them into the caller.
 pub fn is_utf8(s: &[u8]) -> bool
     ensures { result ≡ well_formed s.now }
