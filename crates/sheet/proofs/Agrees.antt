@@ -26,7 +26,7 @@ use Rattle.sheet_line.specs.declared.begin.Begin.TheVariants.{Bad, BadCursor, Fr
 use Rattle.sheet_line.specs.Begin.{flag_fields, sized, size_fields, begin_fields, begin_of}
 use Rattle.sheet_line.specs.Line.{call_of_line}
 use Rattle.sheet.specs.Sheet.{Sheet, fresh_sheet, end_text}
-use Rattle.sheet.specs.Printed.{printed_from, printed}
+use Rattle.sheet.specs.Printed.{printed_from}
 use Rattle.sheet.specs.SheetAgreement.{rows_from, sheet_after, rows_text, AllZero, counting_answers, writing_answers, sheet_rows, SheetAgrees, SheetRest}
 
 -- a run that begins has its cursor in the buffer
@@ -71,11 +71,11 @@ module _ (n p : ℕ) (f : FormattingFlags) where
 -- both runs of a sheet are runs over its calls
 after-counted : (S : Sheet) (cs : List Call) → (sheet_after S cs).counted ≡ (run S.counted cs).state
 after-counted S [] = refl
-after-counted S (c ∷ cs) = after-counted _ cs
+after-counted S (c ∷ cs) = after-counted (record { counted = (step S.counted c).state; written = (step S.written c).state }) cs
 
 after-written : (S : Sheet) (cs : List Call) → (sheet_after S cs).written ≡ (run S.written cs).state
 after-written S [] = refl
-after-written S (c ∷ cs) = after-written _ cs
+after-written S (c ∷ cs) = after-written (record { counted = (step S.counted c).state; written = (step S.written c).state }) cs
 
 -- the answers on the rows are those of both runs
 zero-done : (k : ℕ) (S : Sheet) (cs : List Call) → AllZero (rows_from k S cs) → AllDone (run S.counted cs).answers × AllDone (run S.written cs).answers

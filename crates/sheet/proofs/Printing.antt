@@ -3,7 +3,7 @@ use mathlib.Core.Path.{◌≡◌, ap, ◌∙◌}
 use mathlib.Core.List.{List, [], ◌∷◌, ◌++◌}
 use Prim.Native.Nat.{ℕ, ◌+◌, ◌-◌, ◌*◌, ◌/◌, ◌≤◌, ◌<◌}
 use native.Mathlib.Omega.{arith}
-use lib.ListN.{length, take, drop, length-append, length-take}
+use lib.ListN.{length, take, drop, length-append}
 use lib.Seq.{take-append_seam}
 use Rattle.str_writer.specs.declared.piece.Written.{Written}
 use Rattle.str_writer.specs.Write.{Outcome, outcome, splice, put}
@@ -76,7 +76,3 @@ module _ (total cursor : ℕ) (s : List ℕ) where
         let e₁ = f₁ ∙ ap (λ (t : List ℕ). put b at t) (laid-text z head len x p q) in
         let e₂ = f₂ ∙ put_next b at head w₁ c₁ e₁ (hex_pairs s) (omega arith) in
         f₃ ∙ put_next b at (head ++ hex_pairs s) w₂ c₂ e₂ (10 ∷ []) (omega arith)
-
--- the last line of a part of the bytes is as short as that of all
-pub end-part : (total cursor : ℕ) (b s : List ℕ) (n : ℕ) → s ≡ take n b → length (end_line total cursor s) ≤ 47 + 2 * length s → length (end_line total cursor (take n b)) ≤ 47 + 2 * length b
-end-part total cursor b s n e h = let k : length (take n b) ≤ length b = rw length-take (omega arith) in let g = rw e at h in omega arith

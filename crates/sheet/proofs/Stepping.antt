@@ -1,5 +1,5 @@
 -- A line answered: both runs advanced by a call, or none.
-use mathlib.Core.Bool.{true, false}
+use mathlib.Core.Bool.{true}
 use mathlib.Core.Option.{Option, none, some}
 use mathlib.Core.Path.{◌≡◌, refl}
 use mathlib.Core.List.{List, [], ◌∷◌}
@@ -16,7 +16,7 @@ use Rattle.formatter.specs.declared.head.HeadStep.{HeadStep}
 use Rattle.formatter.specs.View.{view, view_out}
 use Rattle.formatter.specs.Calls.{step_or}
 use Rattle.sheet.specs.declared.Sheet as code
-use Rattle.sheet.specs.Sheet.{Sheet, row_text, bad_text, stepped}
+use Rattle.sheet.specs.Sheet.{Sheet, row_text, stepped}
 use Rattle.sheet.specs.SheetView.{sheet_of, is_some, Step, stepped_of, stepping, LineAnswer, answering}
 
 number_of : (t n : ℕ) → number_in (as_mode t n) ≡ n
@@ -41,26 +41,16 @@ module _ (k : ℕ) (S : code.Sheet) (s t b : List ℕ) (o : Option Call) (x y : 
       let d : view_out y t' b' ≡ step (view S.written t b) c = rw e at q in
       rw (← a, ← d, number_in_lem x.head.mode, number_in_lem y.head.mode)
 
--- whether a line is a call
-pub no_call : (o : Option Call) → is_some o ≡ false → o ≡ none
-no_call none h = refl
-no_call (some c) h = let z : ◌≡◌ {A = ℕ} 0 1 = cc in absurd (omega arith)
-
+-- the call of a line that is one
 pub a_call : (o : Option Call) → is_some o ≡ true → (c : Call) × (o ≡ some c)
 a_call none h = let z : ◌≡◌ {A = ℕ} 0 1 = cc in absurd (omega arith)
 a_call (some c) h = (c, refl)
 
 module _ (k : ℕ) (S : Sheet) (o : Option Call) (out : List ℕ) (at : ℕ) (w : Written) (out' : List ℕ) where
-  pub answer_bad : o ≡ none → outcome w out' ≡ put out at (bad_text k) → ◌≡◌ {A = LineAnswer} (record { is_call = false; sheet = S; printed = outcome w out' }) (answering k S o out at)
-  answer_bad e p = rw (p, e)
-
   pub answer-call : (c : Call) (t : Step) → o ≡ some c → t ≡ stepping k S c → outcome w out' ≡ put out at (row_text t.row) → ◌≡◌ {A = LineAnswer} (record { is_call = true; sheet = t.sheet; printed = outcome w out' }) (answering k S o out at)
   answer-call c t e q p = rw (p, q, e)
 
 -- what a line prints is short
 module _ (k : ℕ) (S : Sheet) (o : Option Call) where
-  pub short_bad : o ≡ none → length (bad_text k) ≤ 25 → length (stepped k S o).text ≤ 105
-  short_bad e h = rw e (omega arith)
-
   pub short-call : (c : Call) (t : Step) → o ≡ some c → t ≡ stepping k S c → length (row_text t.row) ≤ 105 → length (stepped k S o).text ≤ 105
   short-call c t e q h = rw e (rw q at h)
