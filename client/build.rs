@@ -1,5 +1,5 @@
-//! Links `libtable_text.a`, by default from the repository's `target/staticlib`, where
-//! `rt staticlib table_text` leaves it; TABLE_TEXT_DIR names another folder.
+//! Links `libtable_text.a`, by default from the repository's `crates/table_text/out`, where
+//! `rt lib` leaves it; TABLE_TEXT_DIR names another folder.
 
 use std::env;
 use std::path::PathBuf;
@@ -9,7 +9,7 @@ fn main() {
     let here = PathBuf::from(env::var_os("CARGO_MANIFEST_DIR").expect("set by cargo"));
     let dir = match env::var_os("TABLE_TEXT_DIR") {
         Some(dir) => PathBuf::from(dir),
-        None => here.join("../target/staticlib"),
+        None => here.join("../crates/table_text/out"),
     };
     println!(
         "cargo:rerun-if-changed={}",
