@@ -15,7 +15,7 @@ use Rattle.formatting.specs.FlagsAsNumber.{flags_of}
 use Rattle.str_writer.specs.Value.{Value, text_of, input_fault, cut_fault}
 use Rattle.calls.specs.declared.Kind.{Kind}
 use Rattle.calls.specs.Call.{Place, Call, opens, place, value, sub, endsub, finish, open_pieces, place_pieces, close_pieces, ready, fault_number, argument_fault, cut_of, cut_number, call_fault, hold}
-use Rattle.calls.specs.Model.{Mode, counting, writing, PieceOutcome, put, cut_in, tries, stops, Entry, builder, outer, has_printed, State, Out, inner, beyond, judged, fault_of, move, emit, emit_close, lowered, holds, settled, guard, step}
+use Rattle.calls.specs.Model.{Mode, counting, writing, PieceOutcome, put, cut_in, tries, stops, Entry, builder, outer, has_printed, State, Out, inner, beyond, fault_of, move, emit, emit_close, lowered, holds, settled, guard, step}
 use Rattle.writer_backend.specs.declared.pieces.Wrote.{Wrote}
 use Rattle.writer_backend.specs.Output.{mode_of, output_of, put_out}
 use Rattle.writer_backend.specs.Pieces.{try_all}

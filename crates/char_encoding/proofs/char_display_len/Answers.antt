@@ -1,9 +1,7 @@
 use mathlib.Core.Path.{◌≡◌, sym, ◌∙◌}
 use mathlib.Core.Bool.{true, false}
-use borrow.Author.Tests.{not-true, not-false}
 use Rattle.utf8.specs.Utf8.{is_scalar}
 use Rattle.char_encoding.proofs.Laws.{display-char, display-none, answer-char, answer-none}
-use borrow.Author.Rules.{rules}
 use Rattle.char_encoding.proofs.char_display_len.Goals as goal
 
 pub returns-then-not-is_char : goal.returns-then-not-is_char

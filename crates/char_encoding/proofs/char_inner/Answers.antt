@@ -2,7 +2,6 @@ use mathlib.Core.Path.{◌≡◌}
 use Prim.Native.Nat.{◌/◌, ◌%◌, ◌<◌}
 use native.Mathlib.Omega.{arith}
 use Rattle.char_encoding.proofs.Laws.{inner-high, inner-low, answer-char, low_scalar}
-use borrow.Author.Rules.{rules}
 use Rattle.char_encoding.proofs.char_inner.Goals as goal
 
 pub returns-then-c-ge128 : goal.returns-then-c-ge128

@@ -4,7 +4,6 @@ use Rattle.utf8.specs.Utf8.{is_scalar}
 use native.Mathlib.Omega.{arith}
 use Rattle.char_encoding.specs.Char.{char_inner}
 use Rattle.char_encoding.proofs.Laws.{inner-none, inner-some, inner-short, debug-none, debug-some, marked, marked-length}
-use borrow.Author.Rules.{rules}
 use Rattle.char_encoding.proofs.char_to_debug.Goals as goal
 
 pub returns-then-len-eq0 : goal.returns-then-len-eq0

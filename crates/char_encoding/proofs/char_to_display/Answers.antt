@@ -1,6 +1,5 @@
 use Rattle.char_encoding.specs.Char.{char_display}
 use Rattle.char_encoding.proofs.Laws.{widened, display-short}
-use borrow.Author.Rules.{rules}
 use Rattle.char_encoding.proofs.char_to_display.Goals as goal
 
 pub returns : goal.returns

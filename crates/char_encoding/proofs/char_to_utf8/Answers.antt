@@ -1,10 +1,8 @@
 use mathlib.Core.Path.{◌≡◌, sym, ◌∙◌}
 use mathlib.Core.Bool.{true, false}
 use native.Mathlib.Omega.{arith}
-use borrow.Author.Rules.{rules}
-use borrow.Author.Tests.{not-true, not-false}
 use Rattle.utf8.specs.Utf8.{is_scalar}
-use Rattle.char_encoding.proofs.Laws.{octets-1, octets-2, octets-3, octets-4, short_scalar, display-char, display-none, answer-char, answer-none, scalar_most}
+use Rattle.char_encoding.proofs.Laws.{octets-1, octets-2, octets-3, octets-4, short_scalar, display-char, display-none, answer-char, answer-none}
 use Rattle.char_encoding.proofs.char_to_utf8.Goals as goal
 
 pub returns-then-c-lt128 : goal.returns-then-c-lt128

@@ -1,4 +1,3 @@
-use borrow.Author.Rules.{rules}
 use mathlib.Core.Path.{ap}
 use borrow.Author.Tests.{lt-ltb, le-ltb, ne_eqb}
 use Rattle.formatter.specs.declared.dispatch.Op.TheVariants.{Sub}

@@ -1,4 +1,3 @@
-use borrow.Author.Rules.{rules}
 use borrow.Author.Tests.{lt-ltb, le-ltb}
 use Rattle.encoded_call.proofs.Decoding.{within, beyond}
 use Rattle.encoded_call.proofs.unsigned_at.Goals as goal

@@ -1,4 +1,3 @@
-use borrow.Author.Rules.{rules}
 use borrow.Author.Tests.{ne_eqb}
 use Rattle.encoded_call.specs.Encoding.{value_at}
 use Rattle.encoded_call.proofs.value_op.Goals as goal

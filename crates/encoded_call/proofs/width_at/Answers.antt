@@ -1,4 +1,3 @@
-use borrow.Author.Rules.{rules}
 use Rattle.encoded_call.proofs.Decoding.{last_width}
 use Rattle.encoded_call.proofs.width_at.Goals as goal
 

@@ -1,6 +1,4 @@
 use mathlib.Core.Path.{◌∙◌}
-use borrow.Author.Rules.{rules}
-use borrow.Author.Tests.{not-true, not-false}
 use Rattle.lines.proofs.Laws.{last_none, last_open, last-ended}
 use Rattle.lines.proofs.last_line.Goals as goal
 

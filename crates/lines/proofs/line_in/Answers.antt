@@ -1,4 +1,3 @@
-use borrow.Author.Rules.{rules}
 use native.Mathlib.Omega.{arith}
 use Prim.Native.Nat.{◌+◌}
 use Rattle.lines.proofs.Laws.{held-inside, takes-empty, takes_long, takes_whole, takes-last}

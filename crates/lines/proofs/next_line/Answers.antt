@@ -1,4 +1,3 @@
-use borrow.Author.Rules.{rules}
 use Rattle.lines.proofs.Laws.{takes-behind}
 use Rattle.lines.proofs.next_line.Goals as goal
 

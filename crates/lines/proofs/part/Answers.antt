@@ -1,5 +1,4 @@
 use mathlib.Core.Path.{◌∙◌}
-use borrow.Author.Rules.{rules}
 use Rattle.lines.proofs.Laws.{part_none, part_past, part-some}
 use Rattle.lines.proofs.part.Goals as goal
 

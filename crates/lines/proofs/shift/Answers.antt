@@ -1,11 +1,9 @@
-use mathlib.Core.Path.{◌≡◌, refl, ap}
+use mathlib.Core.Path.{refl, ap}
 use mathlib.Core.List.{List}
-use Prim.Native.Nat.{◌+◌, ◌-◌, ◌≤◌}
+use Prim.Native.Nat.{◌+◌, ◌-◌}
 use lib.ListN.{length, length-set}
 use native.Mathlib.Omega.{arith}
-use borrow.Author.Rules.{rules}
-use Rattle.lines.specs.Reading.{held}
-use Rattle.lines.proofs.Laws.{copied, held-inside, shift_next, shifted}
+use Rattle.lines.proofs.Laws.{held-inside, shift_next}
 use Rattle.lines.proofs.shift.Goals as goal
 
 pub loop-i-init : goal.loop-i-init

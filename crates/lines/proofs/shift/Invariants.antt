@@ -1,11 +1,8 @@
-use mathlib.Core.Path.{◌≡◌, refl, ap}
-use mathlib.Core.List.{List}
-use Prim.Native.Nat.{◌+◌, ◌-◌, ◌≤◌}
-use lib.ListN.{length, length-set}
-use native.Mathlib.Omega.{arith}
-use borrow.Author.Rules.{rules}
+use mathlib.Core.Path.{◌≡◌}
+use Prim.Native.Nat.{◌-◌, ◌≤◌}
+use lib.ListN.{length}
 use Rattle.lines.specs.Reading.{held}
-use Rattle.lines.proofs.Laws.{copied, held-inside, shift_next, shifted}
+use Rattle.lines.proofs.Laws.{copied}
 use Rattle.lines.proofs.shift.Given as goal
 
 abbrev pub invariant-loop-i : goal.invariant-loop-i

@@ -1,5 +1,5 @@
 -- `pargument::to_integer_i16` meets its contract.
-use Rattle.std.proofs.Common.{w16, rules}
+use Rattle.std.proofs.Common.{w16}
 use Rattle.pargument.proofs.IntegerLaws.{integer-made}
 use Rattle.pargument.proofs.to_integer_i16.Goals as goal
 

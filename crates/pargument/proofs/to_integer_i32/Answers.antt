@@ -1,5 +1,5 @@
 -- `pargument::to_integer_i32` meets its contract.
-use Rattle.std.proofs.Common.{w32, rules}
+use Rattle.std.proofs.Common.{w32}
 use Rattle.pargument.proofs.IntegerLaws.{integer-made}
 use Rattle.pargument.proofs.to_integer_i32.Goals as goal
 

@@ -1,5 +1,5 @@
 -- `pargument::to_integer_i64` meets its contract.
-use Rattle.std.proofs.Common.{w64, rules}
+use Rattle.std.proofs.Common.{w64}
 use Rattle.pargument.proofs.IntegerLaws.{integer-made}
 use Rattle.pargument.proofs.to_integer_i64.Goals as goal
 

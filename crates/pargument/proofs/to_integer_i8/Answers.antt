@@ -1,5 +1,5 @@
 -- `pargument::to_integer_i8` meets its contract.
-use Rattle.std.proofs.Common.{w8, rules}
+use Rattle.std.proofs.Common.{w8}
 use Rattle.pargument.proofs.IntegerLaws.{integer-made}
 use Rattle.pargument.proofs.to_integer_i8.Goals as goal
 

@@ -1,6 +1,5 @@
 use mathlib.Core.Path.{refl}
 use mathlib.Core.List.{[]}
-use borrow.Author.Rules.{rules}
 use Rattle.writer_backend.specs.Output.{mode_of}
 use Rattle.encoded_call.specs.Encoding.{decode}
 use Rattle.run.proofs.Agreed.{end_in_lem, counted}

@@ -1,4 +1,3 @@
-use borrow.Author.Rules.{rules}
 use Rattle.encoded_call.specs.Encoding.{decode}
 use Rattle.run.proofs.Agreed.{count_agrees}
 use Rattle.run.proofs.count_run_each.Goals as goal

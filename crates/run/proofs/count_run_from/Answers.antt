@@ -1,4 +1,3 @@
-use borrow.Author.Rules.{rules}
 use Rattle.run.proofs.count_run_from.Goals as goal
 
 pub returns : goal.returns

@@ -1,13 +1,11 @@
 use mathlib.Core.Path.{◌≡◌, refl, ◌∙◌}
-use Prim.Native.Nat.{◌+◌, ◌-◌, ◌*◌, ◌/◌, ◌≤◌}
+use Prim.Native.Nat.{◌+◌, ◌-◌, ◌*◌}
 use native.Mathlib.Omega.{arith}
-use lib.ListN.{length, drop, get_or, replicate, length-drop}
-use borrow.Author.Rules.{rules}
+use lib.ListN.{drop, get_or, replicate, length-drop}
 use Rattle.writer_backend.specs.Output.{mode_of}
 use Rattle.formatter.specs.View.{view}
 use Rattle.encoded_call.specs.Encoding.{call_at, decode}
-use Rattle.run.specs.Played.{run_or}
-use Rattle.run.proofs.Playing.{decode-next, decode-end, rest, play_next, play_end}
+use Rattle.run.proofs.Playing.{decode-next, decode-end, play_next, play_end}
 use Rattle.run.proofs.play.Goals as goal
 
 pub loop-k-init : goal.loop-k-init

@@ -1,13 +1,10 @@
-use mathlib.Core.Path.{◌≡◌, refl, ◌∙◌}
-use Prim.Native.Nat.{◌+◌, ◌-◌, ◌*◌, ◌/◌, ◌≤◌}
-use native.Mathlib.Omega.{arith}
-use lib.ListN.{length, drop, get_or, length-drop}
-use borrow.Author.Rules.{rules}
-use Rattle.writer_backend.specs.Output.{mode_of}
+use mathlib.Core.Path.{◌≡◌}
+use Prim.Native.Nat.{◌-◌, ◌*◌, ◌/◌, ◌≤◌}
+use lib.ListN.{length, drop}
 use Rattle.formatter.specs.View.{view}
-use Rattle.encoded_call.specs.Encoding.{call_at, decode}
+use Rattle.encoded_call.specs.Encoding.{decode}
 use Rattle.run.specs.Played.{run_or}
-use Rattle.run.proofs.Playing.{decode-next, decode-end, rest, play_next, play_end}
+use Rattle.run.proofs.Playing.{rest}
 use Rattle.run.proofs.play.Given as goal
 
 abbrev pub invariant-loop-k : goal.invariant-loop-k

@@ -1,5 +1,4 @@
 use mathlib.Core.Path.{refl}
-use borrow.Author.Rules.{rules}
 use Rattle.writer_backend.specs.Output.{mode_of}
 use Rattle.encoded_call.specs.Encoding.{decode}
 use Rattle.run.proofs.Agreed.{end_in_lem, written, write_agrees, write-rest, writes_as_counted}

@@ -1,6 +1,5 @@
 use mathlib.Core.Path.{refl}
 use mathlib.Core.Option.{none}
-use borrow.Author.Rules.{rules}
 use Rattle.sheet_line.specs.Line.{one_field}
 use Rattle.sheet_line.proofs.Splits.{fields-last, fields-cut, call_many}
 use Rattle.sheet_line.proofs.Readings.{bare, one-text}

@@ -1,4 +1,3 @@
-use borrow.Author.Rules.{rules}
 use Rattle.sheet_line.specs.Line.{one_field}
 use Rattle.sheet_line.proofs.one_field.Goals as goal
 

@@ -1,4 +1,3 @@
-use borrow.Author.Rules.{rules}
 use Rattle.sheet_line.specs.Line.{open_bare}
 use Rattle.sheet_line.proofs.open_bare.Goals as goal
 

@@ -1,6 +1,5 @@
 use mathlib.Core.Path.{refl}
 use mathlib.Core.Option.{none}
-use borrow.Author.Rules.{rules}
 use Rattle.sheet_line.specs.Line.{open_named}
 use Rattle.sheet_line.proofs.Readings.{bare}
 use Rattle.sheet_line.proofs.open_named.Goals as goal

@@ -1,7 +1,6 @@
 use mathlib.Core.Path.{refl}
 use mathlib.Core.Option.{none}
 use borrow.Author.Tests.{lt-ltb, le-ltb}
-use borrow.Author.Rules.{rules}
 use Rattle.sheet_line.specs.Line.{call_of_line}
 use Rattle.sheet_line.proofs.Readings.{bare}
 use Rattle.sheet_line.proofs.parse_line.Goals as goal

@@ -1,6 +1,5 @@
 use mathlib.Core.Path.{refl}
 use mathlib.Core.Option.{none}
-use borrow.Author.Rules.{rules}
 use Rattle.sheet_line.specs.Line.{three_fields, num_call}
 use Rattle.sheet_line.proofs.Readings.{bare, num_text}
 use Rattle.sheet_line.proofs.three_fields.Goals as goal

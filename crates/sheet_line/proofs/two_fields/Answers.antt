@@ -1,6 +1,5 @@
 use mathlib.Core.Path.{refl}
 use mathlib.Core.Option.{none}
-use borrow.Author.Rules.{rules}
 use Rattle.sheet_line.specs.Line.{two_fields, open_bare, char_call}
 use Rattle.sheet_line.proofs.Readings.{bare, open_text, char-text}
 use Rattle.sheet_line.proofs.two_fields.Goals as goal

@@ -1,4 +1,3 @@
-use borrow.Author.Rules.{rules}
 use Rattle.single_writes.proofs.answered.Goals as goal
 
 pub returns : goal.returns

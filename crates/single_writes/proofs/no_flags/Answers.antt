@@ -1,4 +1,3 @@
-use borrow.Author.Rules.{rules}
 use Rattle.value_writes.proofs.ValueLaws.{number-met, number-done}
 use Rattle.single_writes.proofs.no_flags.Goals as goal
 

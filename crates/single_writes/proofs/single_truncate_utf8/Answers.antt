@@ -1,5 +1,4 @@
 use mathlib.Core.Path.{ap, ◌∙◌}
-use borrow.Author.Rules.{rules}
 use Rattle.str_writer.specs.Write.{outcome}
 use Rattle.calls.specs.Model.{wrote}
 use Rattle.single_writes.proofs.single_truncate_utf8.Goals as goal

@@ -1,5 +1,4 @@
 use mathlib.Core.Path.{ap, ◌∙◌}
-use borrow.Author.Rules.{rules}
 use Rattle.calls.specs.Model.{wrote}
 use Rattle.single_writes.proofs.single_write_ascii_range_debug.Goals as goal
 

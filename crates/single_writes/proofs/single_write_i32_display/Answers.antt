@@ -1,7 +1,6 @@
 use mir.Syntax.{w32}
 use mir.ValLaws.{to_z-of_z}
 use mathlib.Core.Path.{ap, ◌∙◌}
-use borrow.Author.Rules.{rules}
 use Rattle.calls.specs.Model.{wrote}
 use Rattle.single_writes.proofs.single_write_i32_display.Goals as goal
 

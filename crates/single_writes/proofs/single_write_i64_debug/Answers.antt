@@ -3,7 +3,6 @@ use mir.ValLaws.{to_z-of_z}
 use mathlib.Core.Path.{refl, ap, ◌∙◌}
 use native.Mathlib.Omega.{arith}
 use borrow.Author.Tests.{lt-ltb, le-ltb}
-use borrow.Author.Rules.{rules}
 use Rattle.calls.specs.Model.{wrote, to, writing}
 use Rattle.single_writes.proofs.single_write_i64_debug.Goals as goal
 

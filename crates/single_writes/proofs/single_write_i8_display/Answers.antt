@@ -1,7 +1,6 @@
 use mir.Syntax.{w8}
 use mir.ValLaws.{to_z-of_z}
 use mathlib.Core.Path.{ap, ◌∙◌}
-use borrow.Author.Rules.{rules}
 use Rattle.calls.specs.Model.{wrote}
 use Rattle.single_writes.proofs.single_write_i8_display.Goals as goal
 

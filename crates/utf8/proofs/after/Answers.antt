@@ -1,5 +1,4 @@
 -- `utf8::after` meets its contract: an octet between characters begins one, and any other is in the range that had to follow or not.
-use borrow.Author.Rules.{rules}
 use native.Mathlib.Omega.{arith}
 use Rattle.utf8.specs.Utf8.{continues}
 use Rattle.utf8.proofs.Ranges.{passes, fails}

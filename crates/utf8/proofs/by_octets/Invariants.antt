@@ -1,15 +1,10 @@
 -- `utf8::by_octets` meets its contract. The loop's invariant: the text is well formed if and only if the rest has what has to follow.
-use borrow.Author.Rules.{rules}
-use native.Mathlib.Numerals.{add-one}
-use native.Mathlib.Omega.{arith}
 use mathlib.Core.Option.{some}
-use mathlib.Core.Path.{◌≡◌, refl, ◌∙◌}
-use Prim.Native.Nat.{◌≤◌, ◌<◌, ◌+◌, ◌-◌}
-use lib.ListN.{length, drop, drop_of_length-le}
-use lib.Seq.{drop-cons}
+use mathlib.Core.Path.{◌≡◌}
+use Prim.Native.Nat.{◌≤◌, ◌-◌}
+use lib.ListN.{length, drop}
 use Rattle.utf8.specs.Expected.{ranges}
 use Rattle.utf8.specs.Utf8.{continues, well_formed}
-use Rattle.utf8.proofs.Ranges.{ends}
 use Rattle.utf8.proofs.by_octets.Given as goal
 
 abbrev pub invariant-loop-i : goal.invariant-loop-i

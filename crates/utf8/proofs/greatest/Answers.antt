@@ -1,10 +1,6 @@
 -- `utf8::greatest` meets its contract. The loop's invariant: no byte passed is above the greatest so far.
-use Prim.Native.Nat.{ℕ, ◌≤◌, ◌<◌, ◌-◌}
-use mathlib.Core.Logic.{⊎_elim}
+use Prim.Native.Nat.{◌-◌}
 use native.Mathlib.Omega.{arith}
-use lib.ListN.{length, get_or}
-use borrow.Author.Count.{below_more}
-use borrow.Author.Rules.{rules}
 use Rattle.utf8.proofs.greatest.Goals as goal
 
 pub returns : goal.returns

@@ -1,9 +1,9 @@
 -- `utf8::is_ascii` meets its contract. The loop's invariant: every byte passed is below 80.
 use mathlib.Core.Bool.{true≢false}
 use mathlib.Core.Path.{refl, sym}
-use Prim.Native.Nat.{ℕ, ◌≤◌, ◌<◌, ◌-◌}
+use Prim.Native.Nat.{◌≤◌, ◌-◌}
 use native.Mathlib.Omega.{arith}
-use lib.ListN.{length, get_or}
+use lib.ListN.{get_or}
 use borrow.Author.Count.{below_more}
 use borrow.Author.Rules.{rules}
 use Rattle.utf8.proofs.is_ascii.Goals as goal

@@ -1,7 +1,6 @@
 -- `utf8::is_long_utf8` meets its contract: text whose greatest byte is below 80 is well formed.
 use mathlib.Core.Path.{sym}
 use native.Mathlib.Omega.{arith}
-use borrow.Author.Rules.{rules}
 use Rattle.utf8.proofs.Ranges.{plain}
 use Rattle.utf8.proofs.is_long_utf8.Goals as goal
 

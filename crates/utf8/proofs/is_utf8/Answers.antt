@@ -1,6 +1,5 @@
 -- `utf8::is_utf8` meets its contract: text whose bytes are all below 80 is well formed.
 use mathlib.Core.Path.{sym}
-use borrow.Author.Rules.{rules}
 use Rattle.utf8.proofs.Ranges.{plain}
 use Rattle.utf8.proofs.is_utf8.Goals as goal
 

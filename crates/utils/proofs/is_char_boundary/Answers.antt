@@ -1,5 +1,4 @@
 use borrow.Author.Tests.{lt-ltb, le-ltb}
-use borrow.Author.Rules.{rules}
 use Rattle.utils.proofs.is_char_boundary.Goals as goal
 
 pub returns-then-b-lt128 : goal.returns-then-b-lt128

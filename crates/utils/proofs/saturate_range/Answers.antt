@@ -1,4 +1,3 @@
-use borrow.Author.Rules.{rules}
 use Rattle.utils.proofs.saturate_range.Goals as goal
 
 pub returns : goal.returns

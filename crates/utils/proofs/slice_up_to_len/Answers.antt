@@ -1,7 +1,6 @@
 use native.Mathlib.Omega.{arith}
 use mathlib.Core.Path.{sym}
 use lib.Seq.{take_all, length-take-le}
-use borrow.Author.Rules.{rules}
 use Rattle.utils.proofs.slice_up_to_len.Goals as goal
 
 pub returns-then-len-slice : goal.returns-then-len-slice

@@ -1,4 +1,3 @@
-use borrow.Author.Rules.{rules}
 use mathlib.Core.Path.{refl, ◌∙◌}
 use Rattle.formatting.specs.Escape.{quoted}
 use Rattle.utils.specs.Text.{part}

@@ -1,4 +1,3 @@
-use borrow.Author.Rules.{rules}
 use mir.Syntax.{w64}
 use native.Mathlib.Omega.{arith}
 use Prim.Native.Nat.{◌-◌, ◌^◌}

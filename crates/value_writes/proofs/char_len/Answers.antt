@@ -1,4 +1,3 @@
-use borrow.Author.Rules.{rules}
 use Rattle.str_writer.specs.Value.{text_of}
 use Rattle.value_writes.proofs.char_len.Goals as goal
 

@@ -1,4 +1,3 @@
-use borrow.Author.Rules.{rules}
 use mathlib.Core.Path.{◌≡◌, ◌∙◌, ap}
 use Rattle.error.specs.Answer.{number_of}
 use Rattle.str_writer.specs.Value.{cut_fault}

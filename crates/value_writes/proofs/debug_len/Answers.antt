@@ -1,4 +1,3 @@
-use borrow.Author.Rules.{rules}
 use Rattle.value_writes.proofs.debug_len.Goals as goal
 
 pub returns-in-Decimal : goal.returns-in-Decimal

@@ -1,4 +1,3 @@
-use borrow.Author.Rules.{rules}
 use Rattle.value_writes.proofs.flags_for.Goals as goal
 
 pub returns-in-Display : goal.returns-in-Display

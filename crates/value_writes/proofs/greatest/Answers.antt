@@ -1,4 +1,3 @@
-use borrow.Author.Rules.{rules}
 use Rattle.value_writes.proofs.greatest.Goals as goal
 
 pub returns-in-W8 : goal.returns-in-W8

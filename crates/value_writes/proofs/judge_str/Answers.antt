@@ -1,4 +1,3 @@
-use borrow.Author.Rules.{rules}
 use Rattle.str_writer.specs.Value.{str, input_fault}
 use Rattle.writer_backend.specs.Output.{mode_of}
 use Rattle.writer_backend.proofs.Output.{counts, writes}

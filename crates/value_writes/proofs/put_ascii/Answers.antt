@@ -1,4 +1,3 @@
-use borrow.Author.Rules.{rules}
 use mathlib.Core.Path.{sym, ◌∙◌}
 use Rattle.str_writer.specs.Value.{ascii, display, debug, text_of}
 use Rattle.str_writer.proofs.Values.{ascii_uncut}

@@ -1,4 +1,3 @@
-use borrow.Author.Rules.{rules}
 use mathlib.Core.Path.{◌∙◌}
 use Rattle.str_writer.specs.Value.{char, display, debug, text_of}
 use Rattle.str_writer.proofs.Values.{char_uncut}

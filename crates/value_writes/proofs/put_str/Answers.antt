@@ -1,4 +1,3 @@
-use borrow.Author.Rules.{rules}
 use mathlib.Core.Path.{sym, ◌∙◌}
 use Rattle.str_writer.specs.Value.{str, display, debug, text_of}
 use Rattle.writer_backend.proofs.Output.{counts, writes, wrote_at}

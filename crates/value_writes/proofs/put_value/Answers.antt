@@ -1,10 +1,8 @@
-use borrow.Author.Rules.{rules}
 use mathlib.Core.Path.{◌≡◌, sym, ◌∙◌}
-use Rattle.str_writer.specs.Value.{text_of}
 use Rattle.calls.specs.Model.{beyond}
-use Rattle.writer_backend.specs.Output.{mode_of, put_out}
-use Rattle.value_writes.specs.Values.{form_of, text_of_parts, value_of, value_out}
-use Rattle.value_writes.proofs.ValueLaws.{by_type, value_past}
+use Rattle.writer_backend.specs.Output.{mode_of}
+use Rattle.value_writes.specs.Values.{value_of}
+use Rattle.value_writes.proofs.ValueLaws.{value_past}
 use Rattle.value_writes.proofs.put_value.Goals as goal
 
 pub returns-then-fault-number : goal.returns-then-fault-number

@@ -1,7 +1,5 @@
-use mathlib.Core.Path.{◌≡◌, refl, sym, ◌∙◌}
-use Prim.Native.Nat.{◌-◌, ◌≤◌}
-use lib.ListN.{length, drop}
-use Rattle.ascii_str.specs.Ascii.{ascii_from}
+use mathlib.Core.Path.{refl, sym, ◌∙◌}
+use Prim.Native.Nat.{◌-◌}
 use Rattle.ascii_str.proofs.Laws.{above, below, end}
 use native.Mathlib.Omega.{arith}
 use Rattle.ascii_str.proofs.AsciiStr.new.Goals as goal

@@ -1,9 +1,7 @@
-use mathlib.Core.Path.{◌≡◌, refl, sym, ◌∙◌}
+use mathlib.Core.Path.{◌≡◌}
 use Prim.Native.Nat.{◌-◌, ◌≤◌}
 use lib.ListN.{length, drop}
 use Rattle.ascii_str.specs.Ascii.{ascii_from}
-use Rattle.ascii_str.proofs.Laws.{above, below, end}
-use native.Mathlib.Omega.{arith}
 use Rattle.ascii_str.proofs.AsciiStr.new.Given as goal
 
 abbrev pub invariant-loop-i : goal.invariant-loop-i

@@ -1,9 +1,8 @@
 -- The loop's invariant: the rest, read on from here, gives the number that all digits make. The measure is how many bytes are left.
-use mathlib.Core.Path.{◌≡◌, refl, sym, ◌∙◌}
-use Prim.Native.Nat.{◌+◌, ◌-◌, ◌*◌, ◌≤◌}
+use mathlib.Core.Path.{refl, sym, ◌∙◌}
+use Prim.Native.Nat.{◌+◌, ◌-◌, ◌*◌}
 use native.Mathlib.Omega.{arith}
-use lib.ListN.{length, drop, get_or}
-use Rattle.fields.specs.Decimal.{up_to, read_from}
+use lib.ListN.{drop, get_or}
 use Rattle.fields.proofs.Numbers.{above, read_next, read_low, read-high, read-end}
 use Rattle.fields.proofs.decimal.digits.Goals as goal
 

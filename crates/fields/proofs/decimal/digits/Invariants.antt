@@ -1,10 +1,8 @@
 -- The loop's invariant: the rest, read on from here, gives the number that all digits make. The measure is how many bytes are left.
-use mathlib.Core.Path.{◌≡◌, refl, sym, ◌∙◌}
-use Prim.Native.Nat.{◌+◌, ◌-◌, ◌*◌, ◌≤◌}
-use native.Mathlib.Omega.{arith}
-use lib.ListN.{length, drop, get_or}
+use mathlib.Core.Path.{◌≡◌}
+use Prim.Native.Nat.{◌-◌, ◌≤◌}
+use lib.ListN.{length, drop}
 use Rattle.fields.specs.Decimal.{up_to, read_from}
-use Rattle.fields.proofs.Numbers.{above, read_next, read_low, read-high, read-end}
 use Rattle.fields.proofs.decimal.digits.Given as goal
 
 abbrev pub invariant-loop-i : goal.invariant-loop-i

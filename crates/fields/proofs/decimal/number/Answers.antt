@@ -1,5 +1,4 @@
 use native.Mathlib.Omega.{arith}
-use borrow.Author.Rules.{rules}
 use Rattle.fields.proofs.Numbers.{number-empty, number-zero, number_digits}
 use Rattle.fields.proofs.decimal.number.Goals as goal
 use Rattle.fields.proofs.decimal.number.Goals.{then-s-gt1+else-s-eq48, else-s-gt1}

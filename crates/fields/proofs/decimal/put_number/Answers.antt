@@ -1,4 +1,3 @@
-use borrow.Author.Rules.{rules}
 use Rattle.fields.specs.Decimal.{cell}
 use Rattle.fields.proofs.Cells.{cell_full, cell-done}
 use Rattle.str_writer.proofs.Outcomes.{put_bad}

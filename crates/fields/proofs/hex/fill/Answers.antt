@@ -1,11 +1,8 @@
 -- The loop's invariant: the bytes of the rest, stored from here on, give the buffer with all bytes. The measure is how many bytes are left.
-use mathlib.Core.Bool.{true}
 use mathlib.Core.Path.{◌≡◌, refl, sym, ◌∙◌}
-use Prim.Native.Nat.{◌+◌, ◌-◌, ◌*◌, ◌/◌, ◌≤◌}
+use Prim.Native.Nat.{◌+◌, ◌-◌, ◌*◌}
 use native.Mathlib.Omega.{arith}
-use lib.ListN.{length, drop, length-set}
-use Rattle.str_writer.specs.Write.{splice}
-use Rattle.fields.specs.Hex.{is_hex, hex_bytes}
+use lib.ListN.{length-set}
 use Rattle.fields.proofs.Pairs.{bytes-length, hex_pair, fill_next, fill_end}
 use Rattle.fields.proofs.hex.fill.Goals as goal
 

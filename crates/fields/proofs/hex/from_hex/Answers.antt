@@ -1,6 +1,4 @@
 use mathlib.Core.Path.{sym, ◌∙◌}
-use borrow.Author.Rules.{rules}
-use borrow.Author.Tests.{not-true, not-false}
 use Rattle.fields.proofs.Pairs.{bytes-length, read-not, read_long, read_done}
 use Rattle.fields.proofs.hex.from_hex.Goals as goal
 

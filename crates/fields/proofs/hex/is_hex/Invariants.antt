@@ -1,12 +1,8 @@
 -- The loop's invariant: the rest is pairs exactly if the text is. The measure is how many bytes are left.
-use mathlib.Core.Path.{◌≡◌, refl, sym, ◌∙◌}
+use mathlib.Core.Path.{◌≡◌}
 use Prim.Native.Nat.{◌-◌, ◌≤◌}
-use borrow.Author.Rules.{rules}
-use borrow.Author.Tests.{not-true, not-false}
-use native.Mathlib.Omega.{arith}
 use lib.ListN.{length, drop}
 use Rattle.fields.specs.Hex.{is_hex}
-use Rattle.fields.proofs.Pairs.{hex_first, hex_second, hex_next, hex_end}
 use Rattle.fields.proofs.hex.is_hex.Given as goal
 
 abbrev pub invariant-loop-i : goal.invariant-loop-i

@@ -1,11 +1,8 @@
 -- The loop's invariant: the pairs of the rest, laid from here on, give the buffer with all pairs. The measure is how many bytes are left.
 use mathlib.Core.Path.{◌≡◌, refl, sym, ◌∙◌}
-use Prim.Native.Nat.{◌+◌, ◌-◌, ◌*◌, ◌≤◌}
+use Prim.Native.Nat.{◌+◌, ◌-◌}
 use native.Mathlib.Omega.{arith}
-use borrow.Author.Rules.{rules}
-use lib.ListN.{length, drop, length-set}
-use Rattle.str_writer.specs.Write.{splice}
-use Rattle.fields.specs.Hex.{hex_pairs}
+use lib.ListN.{length-set}
 use Rattle.fields.proofs.Pairs.{pairs-length, lay_next, lay_end}
 use Rattle.fields.proofs.hex.lay_pairs.Goals as goal
 

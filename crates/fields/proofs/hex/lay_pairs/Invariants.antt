@@ -1,12 +1,9 @@
 -- The loop's invariant: the pairs of the rest, laid from here on, give the buffer with all pairs. The measure is how many bytes are left.
-use mathlib.Core.Path.{◌≡◌, refl, sym, ◌∙◌}
+use mathlib.Core.Path.{◌≡◌}
 use Prim.Native.Nat.{◌+◌, ◌-◌, ◌*◌, ◌≤◌}
-use native.Mathlib.Omega.{arith}
-use borrow.Author.Rules.{rules}
-use lib.ListN.{length, drop, length-set}
+use lib.ListN.{length, drop}
 use Rattle.str_writer.specs.Write.{splice}
 use Rattle.fields.specs.Hex.{hex_pairs}
-use Rattle.fields.proofs.Pairs.{pairs-length, lay_next, lay_end}
 use Rattle.fields.proofs.hex.lay_pairs.Given as goal
 
 abbrev pub invariant-loop-i : goal.invariant-loop-i

@@ -1,4 +1,3 @@
-use borrow.Author.Rules.{rules}
 use Rattle.str_writer.proofs.Outcomes.{put_bad}
 use Rattle.fields.specs.Hex.{hex_pairs}
 use Rattle.fields.proofs.Pairs.{pairs-full, pairs_fit, pairs-done}

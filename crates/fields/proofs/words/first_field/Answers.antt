@@ -2,7 +2,6 @@ use mathlib.Core.Path.{ap, sym}
 use Prim.Native.Nat.{ℕ}
 use lib.ListN.{take}
 use lib.Seq.{length-take-le}
-use borrow.Author.Rules.{rules}
 use Rattle.fields.proofs.words.first_field.Goals as goal
 
 pub slice_bounds-result-end : goal.slice_bounds-result-end

@@ -1,10 +1,8 @@
 -- The loop's invariant: what is passed, and the place in the rest, make the place. The measure is how many bytes are left.
 use mathlib.Core.Path.{◌≡◌}
 use Prim.Native.Nat.{◌+◌, ◌-◌, ◌≤◌}
-use native.Mathlib.Omega.{arith}
 use lib.ListN.{length, drop}
 use Rattle.fields.specs.Fields.{index_of}
-use Rattle.fields.proofs.Splitting.{index_here, index_later, index_end}
 use Rattle.fields.proofs.words.index_of.Given as goal
 
 abbrev pub invariant-loop-i : goal.invariant-loop-i

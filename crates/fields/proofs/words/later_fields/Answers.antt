@@ -1,4 +1,3 @@
-use borrow.Author.Rules.{rules}
 use Rattle.fields.proofs.Splitting.{later-some, later-none}
 use Rattle.fields.proofs.words.later_fields.Goals as goal
 

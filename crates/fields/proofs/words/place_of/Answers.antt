@@ -1,9 +1,5 @@
-use mathlib.Core.Path.{◌≡◌}
-use Prim.Native.Nat.{◌+◌, ◌-◌, ◌≤◌}
-use lib.ListN.{length, drop}
+use Prim.Native.Nat.{◌-◌}
 use native.Mathlib.Omega.{arith}
-use borrow.Author.Rules.{rules}
-use Rattle.fields.specs.Fields.{fields, place_of}
 use Rattle.fields.proofs.Splitting.{rest_all, place_found, place-ended, place-next}
 use Rattle.fields.proofs.words.place_of.Goals as goal
 

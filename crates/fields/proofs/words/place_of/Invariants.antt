@@ -1,10 +1,7 @@
 use mathlib.Core.Path.{◌≡◌}
 use Prim.Native.Nat.{◌+◌, ◌-◌, ◌≤◌}
 use lib.ListN.{length, drop}
-use native.Mathlib.Omega.{arith}
-use borrow.Author.Rules.{rules}
 use Rattle.fields.specs.Fields.{fields, place_of}
-use Rattle.fields.proofs.Splitting.{rest_all, place_found, place-ended, place-next}
 use Rattle.fields.proofs.words.place_of.Given as goal
 
 abbrev pub invariant-loop-rest : goal.invariant-loop-rest

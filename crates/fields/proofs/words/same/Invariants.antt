@@ -1,10 +1,8 @@
 -- The loop's invariant: the rests are the same exactly if the texts are. The measure is how many bytes are left.
-use mathlib.Core.Path.{◌≡◌, refl, sym, ◌∙◌}
+use mathlib.Core.Path.{◌≡◌}
 use Prim.Native.Nat.{◌-◌, ◌≤◌}
-use native.Mathlib.Omega.{arith}
 use lib.ListN.{length, drop}
 use Rattle.fields.specs.Fields.{same}
-use Rattle.fields.proofs.Splitting.{same_lengths, same_next, same_not, same_end}
 use Rattle.fields.proofs.words.same.Given as goal
 
 abbrev pub invariant-loop-i : goal.invariant-loop-i

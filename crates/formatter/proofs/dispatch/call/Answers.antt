@@ -1,4 +1,3 @@
-use borrow.Author.Rules.{rules}
 use Rattle.formatter.proofs.dispatch.call.Goals as goal
 
 pub returns-in-Open : goal.returns-in-Open

@@ -1,4 +1,3 @@
-use borrow.Author.Rules.{rules}
 use Rattle.formatter.proofs.Steps.{by_close}
 use Rattle.formatter.proofs.dispatch.emit_close.Goals as goal
 

@@ -1,4 +1,3 @@
-use borrow.Author.Rules.{rules}
 use Rattle.writer_backend.specs.Pieces.{place_of}
 use Rattle.formatter.proofs.Steps.{by_place}
 use Rattle.formatter.proofs.dispatch.emit_place.Goals as goal

@@ -1,4 +1,3 @@
-use borrow.Author.Rules.{rules}
 use mathlib.Core.Path.{refl, sym, ◌∙◌}
 use Rattle.calls.specs.Call.{finish}
 use Rattle.formatter.specs.View.{margin_of}

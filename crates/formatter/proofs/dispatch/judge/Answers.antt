@@ -1,4 +1,3 @@
-use borrow.Author.Rules.{rules}
 use mathlib.Core.Path.{refl, sym, ◌∙◌}
 use Rattle.calls.specs.Call.{opens, place, finish, sub, endsub}
 use Rattle.writer_backend.specs.Pieces.{place_of}

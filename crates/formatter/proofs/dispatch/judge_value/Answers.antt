@@ -1,5 +1,3 @@
-use borrow.Author.Rules.{rules}
-use borrow.Author.Tests.{not-true, not-false}
 use Rattle.calls.specs.Call.{fault_number}
 use Rattle.str_writer.specs.Value.{cut_fault}
 use Rattle.writer_backend.specs.Output.{mode_of}

@@ -1,4 +1,3 @@
-use borrow.Author.Rules.{rules}
 use Rattle.formatter.proofs.Steps.{past_none, none-wrong}
 use Rattle.formatter.proofs.dispatch.no_call.Goals as goal
 

@@ -1,6 +1,4 @@
-use borrow.Author.Rules.{rules}
 use mathlib.Core.Path.{refl, sym, ◌∙◌}
-use native.Mathlib.Omega.{arith}
 use Rattle.calls.specs.Call.{opens, open_pieces}
 use Rattle.writer_backend.specs.Output.{output_of}
 use Rattle.formatter.proofs.Held.{opened_refusal}

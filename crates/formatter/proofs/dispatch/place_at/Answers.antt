@@ -1,4 +1,3 @@
-use borrow.Author.Rules.{rules}
 use mathlib.Core.Path.{refl, sym, ◌∙◌}
 use Rattle.formatting.specs.FlagsAsNumber.{flags_of}
 use Rattle.calls.specs.Call.{place, place_pieces}

@@ -1,6 +1,4 @@
-use borrow.Author.Rules.{rules}
 use mathlib.Core.Path.{sym, ◌∙◌}
-use borrow.Author.Tests.{not-true, not-false}
 use Rattle.calls.specs.Call.{value}
 use Rattle.value_writes.specs.Values.{value_of}
 use Rattle.formatter.proofs.Steps.{past_end, value-wrong, value-done}

@@ -1,4 +1,3 @@
-use borrow.Author.Rules.{rules}
 use Rattle.formatter.proofs.Laws.{held_low, held_high}
 use Rattle.formatter.proofs.entries.held_of.Goals as goal
 

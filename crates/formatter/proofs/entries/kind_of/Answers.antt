@@ -1,4 +1,3 @@
-use borrow.Author.Rules.{rules}
 use Rattle.formatter.proofs.Laws.{set_of}
 use Rattle.formatter.proofs.entries.kind_of.Goals as goal
 

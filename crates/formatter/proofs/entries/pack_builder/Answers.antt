@@ -1,5 +1,4 @@
 use mathlib.Core.Path.{◌∙◌}
-use borrow.Author.Rules.{rules}
 use Rattle.formatter.proofs.Laws.{packed_builder}
 use Rattle.formatter.proofs.entries.pack_builder.Goals as goal
 

@@ -1,6 +1,5 @@
 use mathlib.Core.Path.{◌∙◌}
 use native.Mathlib.Omega.{arith}
-use borrow.Author.Rules.{rules}
 use Rattle.formatter.proofs.Laws.{packed_outer}
 use Rattle.formatter.proofs.entries.pack_outer.Goals as goal
 

@@ -1,4 +1,3 @@
-use borrow.Author.Rules.{rules}
 use Rattle.formatter.proofs.Judging.{endsub-none, endsub-wrong, endsub-meets}
 use Rattle.formatter.proofs.faults.judge_endsub.Goals as goal
 

@@ -1,5 +1,3 @@
-use borrow.Author.Rules.{rules}
-use borrow.Author.Tests.{not-true, not-false}
 use Rattle.formatter.proofs.Judging.{finish-wrong, finish-meets}
 use Rattle.formatter.proofs.faults.judge_finish.Goals as goal
 

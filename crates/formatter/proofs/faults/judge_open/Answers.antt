@@ -1,6 +1,4 @@
-use borrow.Author.Rules.{rules}
 use mathlib.Core.Path.{refl}
-use borrow.Author.Tests.{not-true, not-false}
 use Rattle.calls.specs.Call.{opens}
 use Rattle.formatter.proofs.Judging.{not-ready, ready_deep, ready-meets, deep_entries, deep_margin, not_deep, name-fault, name_done}
 use Rattle.formatter.proofs.faults.judge_open.Goals as goal

@@ -1,5 +1,3 @@
-use borrow.Author.Rules.{rules}
-use borrow.Author.Tests.{not-true, not-false}
 use Rattle.writer_backend.specs.Pieces.{place_of}
 use Rattle.formatter.proofs.Judging.{place-wrong, place-meets}
 use Rattle.formatter.proofs.faults.judge_place.Goals as goal

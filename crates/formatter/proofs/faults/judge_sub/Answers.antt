@@ -1,6 +1,5 @@
-use borrow.Author.Rules.{rules}
 use mathlib.Core.Path.{refl}
-use borrow.Author.Tests.{not-true, not-false, le-leb, lt-leb}
+use borrow.Author.Tests.{le-leb, lt-leb}
 use Rattle.calls.specs.Call.{sub}
 use Rattle.formatter.proofs.Judging.{not-ready, ready_deep, ready-meets}
 use Rattle.formatter.proofs.faults.judge_sub.Goals as goal

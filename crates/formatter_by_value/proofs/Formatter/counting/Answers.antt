@@ -1,4 +1,3 @@
-use borrow.Author.Rules.{rules}
 use Rattle.formatter_by_value.proofs.Formatter.counting.Goals as goal
 
 pub returns : goal.returns

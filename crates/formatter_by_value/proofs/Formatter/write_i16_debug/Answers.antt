@@ -1,7 +1,6 @@
 use lib.Dec.{lit≤}
 use mir.Syntax.{w16}
-use borrow.Author.Rules.{rules}
-use Rattle.formatter_by_value.proofs.Widths.{as_i64, i64_of}
+use Rattle.formatter_by_value.proofs.Widths.{i64_of}
 use Rattle.formatter_by_value.proofs.Formatter.write_i16_debug.Goals as goal
 
 pub returns : goal.returns

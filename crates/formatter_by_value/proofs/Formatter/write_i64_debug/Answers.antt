@@ -1,6 +1,5 @@
 use mir.Syntax.{w64}
 use mir.ValLaws.{to_z-of_z}
-use borrow.Author.Rules.{rules}
 use Rattle.formatter_by_value.proofs.Formatter.write_i64_debug.Goals as goal
 
 pub returns : goal.returns

@@ -1,6 +1,5 @@
 use lib.Dec.{ltb}
 use lib.ListN.{length}
-use borrow.Author.Rules.{rules}
 use Rattle.formatter_by_value.proofs.Begins.{begins}
 use Rattle.formatter_by_value.proofs.Formatter.writing.Goals as goal
 

@@ -1,8 +1,5 @@
 use mathlib.Core.Path.{sym, ◌∙◌}
-use borrow.Author.Rules.{rules}
-use borrow.Author.Tests.{not-true, not-false}
-use Rattle.formatting.specs.Escape.{escape_of}
-use Rattle.formatting.proofs.Letters.{bare, lettered, coded}
+use Rattle.formatting.proofs.Letters.{lettered, coded}
 use Rattle.formatting.proofs.escaping.escape_of.Goals as goal
 
 pub returns-in-Letter : goal.returns-in-Letter

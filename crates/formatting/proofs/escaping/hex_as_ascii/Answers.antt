@@ -1,5 +1,4 @@
 use borrow.Author.Tests.{lt-ltb, le-ltb}
-use borrow.Author.Rules.{rules}
 use Rattle.formatting.proofs.escaping.hex_as_ascii.Goals as goal
 
 pub returns-then-digit-lt10 : goal.returns-then-digit-lt10

@@ -1,5 +1,4 @@
 use mathlib.Core.Path.{refl, sym, ◌∙◌}
-use borrow.Author.Rules.{rules}
 use Rattle.formatting.proofs.Letters.{lettered, no_letter}
 use Rattle.formatting.proofs.escaping.is_backslash_escaped.Goals as goal
 

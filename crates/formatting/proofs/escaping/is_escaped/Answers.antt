@@ -1,6 +1,5 @@
 use mathlib.Core.Path.{sym, ◌∙◌}
 use native.Mathlib.Omega.{arith}
-use borrow.Author.Rules.{rules}
 use borrow.Author.Tests.{lt-ltb}
 use Rattle.formatting.proofs.Letters.{low-escaped, letter-escaped, high-escaped}
 use Rattle.formatting.proofs.escaping.is_escaped.Goals as goal

@@ -1,6 +1,5 @@
 use mathlib.Core.Path.{◌∙◌}
 use native.Mathlib.Omega.{arith}
-use borrow.Author.Rules.{rules}
 use Rattle.formatting.proofs.FlagsNumbers.{flags-parts}
 use Rattle.formatting.proofs.flags_as_number.flags_number.Goals as goal
 

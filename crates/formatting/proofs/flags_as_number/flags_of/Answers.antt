@@ -1,4 +1,3 @@
-use borrow.Author.Rules.{rules}
 use Rattle.formatting.proofs.flags_as_number.flags_of.Goals as goal
 
 pub returns : goal.returns

@@ -1,4 +1,3 @@
-use borrow.Author.Rules.{rules}
 use Rattle.formatting.proofs.FlagsNumbers.{lower_of}
 use Rattle.formatting.proofs.flags_as_number.hex_fmt_of.Goals as goal
 

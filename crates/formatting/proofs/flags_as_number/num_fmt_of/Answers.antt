@@ -1,4 +1,3 @@
-use borrow.Author.Rules.{rules}
 use Rattle.formatting.proofs.FlagsNumbers.{binary_of}
 use Rattle.formatting.proofs.flags_as_number.num_fmt_of.Goals as goal
 

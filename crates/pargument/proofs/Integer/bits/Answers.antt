@@ -1,5 +1,5 @@
 -- `pargument::Integer::bits` meets its contract: below zero the wrapped difference is the two's complement.
-use Rattle.std.proofs.Common.{◌≡◌, ◌-◌, ◌%◌, ◌^◌, arith, rules}
+use Rattle.std.proofs.Common.{◌≡◌, ◌-◌, ◌%◌, ◌^◌, arith}
 use Rattle.pargument.proofs.Integer.bits.Goals as goal
 
 pub returns-then-self : goal.returns-then-self

@@ -1,8 +1,6 @@
 -- `pargument::Integer::to_start_array_display` meets its contract: the loop lays the digits (proofs/Laying), and the sign is put before them.
-use Rattle.std.proofs.Common.{◌+◌, ◌%◌, ◌^◌, ◌<◌, ◌≤◌, refl, arith, lit≤}
 use Rattle.pwrapper.specs.Digits.{dec_digit}
-use Rattle.pwrapper.proofs.Digits.{text-short}
-use Rattle.pargument.proofs.Laying.{Laying, laying_start, laying_place, laying_step, laying_end, put, settled}
+use Rattle.pargument.proofs.Laying.{Laying}
 use Rattle.pargument.proofs.Integer.to_start_array_display.Given as goal
 
 abbrev pub invariant-loop-rest : goal.invariant-loop-rest

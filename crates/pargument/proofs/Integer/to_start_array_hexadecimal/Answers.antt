@@ -1,9 +1,9 @@
 -- `pargument::Integer::to_start_array_hexadecimal` meets its contract: the loop lays the digits (proofs/Laying), and the prefix is put before them.
-use Rattle.std.proofs.Common.{◌≡◌, ◌%◌, ◌^◌, ◌<◌, ◌≤◌, arith, lit≤, rules}
+use Rattle.std.proofs.Common.{◌≡◌, ◌%◌, ◌^◌, ◌<◌, ◌≤◌, arith, lit≤}
 use native.Mathlib.Nat.{mod-mod}
 use Rattle.formatting.specs.Hex.{hex_digit}
 use Rattle.pwrapper.proofs.Digits.{text-short}
-use Rattle.pargument.proofs.Laying.{Laying, laying_start, laying_place, laying_step, laying_end, put, settled}
+use Rattle.pargument.proofs.Laying.{laying_start, laying_place, laying_step, laying_end, put, settled}
 use Rattle.pargument.proofs.Integer.to_start_array_hexadecimal.Goals as goal
 
 b2 : 2 ≤ 16

@@ -1,4 +1,3 @@
-use borrow.Author.Rules.{rules}
 use Rattle.std.specs.Prelude.{◌≡◌}
 use mir.Syntax.{w32}
 use mir.Val.{of_z, to_z}

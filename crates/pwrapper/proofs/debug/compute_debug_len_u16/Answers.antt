@@ -1,4 +1,3 @@
-use borrow.Author.Rules.{rules}
 use Rattle.pwrapper.proofs.debug.compute_debug_len_u16.Goals as goal
 
 pub returns-in-Decimal : goal.returns-in-Decimal

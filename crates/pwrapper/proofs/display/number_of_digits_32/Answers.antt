@@ -1,4 +1,3 @@
-use borrow.Author.Rules.{rules}
 use native.Mathlib.Omega.{arith}
 use Rattle.std.specs.Prelude.{◌/◌, ◌^◌}
 use Rattle.pwrapper.proofs.Lengths.{decimal-64, decimal-more}

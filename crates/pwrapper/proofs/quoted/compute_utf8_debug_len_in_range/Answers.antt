@@ -1,8 +1,7 @@
 -- the clamped range is a range of the text
-use Rattle.std.specs.Prelude.{◌≡◌, ◌-◌, ◌≤◌, length, take, drop}
-use borrow.Author.Rules.{rules}
+use Rattle.std.specs.Prelude.{◌≡◌, ◌-◌, take, drop}
 use Rattle.utils.specs.Text.{part}
-use Rattle.pwrapper.proofs.Ranges.{clamped_order, clamped_end, clamped_part}
+use Rattle.pwrapper.proofs.Ranges.{clamped_part}
 use Rattle.pwrapper.proofs.quoted.compute_utf8_debug_len_in_range.Goals as goal
 
 pub returns-then-end-start-lt-SHORT : goal.returns-then-end-start-lt-SHORT

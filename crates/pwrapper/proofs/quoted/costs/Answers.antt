@@ -1,8 +1,7 @@
 -- the sum of the bytes from start to i, of which none costs more than 3
-use Rattle.std.specs.Prelude.{◌≡◌, ◌+◌, ◌-◌, ◌*◌, ◌≤◌}
-use borrow.Author.Rules.{rules}
+use Rattle.std.specs.Prelude.{◌≡◌, ◌-◌}
 use native.Mathlib.Omega.{arith}
-use Rattle.pwrapper.proofs.Escapes.{Passed, none_passed, byte_passed}
+use Rattle.pwrapper.proofs.Escapes.{none_passed, byte_passed}
 use Rattle.pwrapper.proofs.quoted.costs.Goals as goal
 
 pub loop-i-init : goal.loop-i-init

@@ -1,8 +1,6 @@
 -- the sum of the bytes from start to i, of which none costs more than 3
-use Rattle.std.specs.Prelude.{◌≡◌, ◌+◌, ◌-◌, ◌*◌, ◌≤◌}
-use borrow.Author.Rules.{rules}
-use native.Mathlib.Omega.{arith}
-use Rattle.pwrapper.proofs.Escapes.{Passed, none_passed, byte_passed}
+use Rattle.std.specs.Prelude.{◌+◌, ◌-◌, ◌*◌, ◌≤◌}
+use Rattle.pwrapper.proofs.Escapes.{Passed}
 use Rattle.pwrapper.proofs.quoted.costs.Given as goal
 
 abbrev pub invariant-loop-i : goal.invariant-loop-i

@@ -1,11 +1,10 @@
 -- the counts of the first i bytes
-use Rattle.std.specs.Prelude.{◌≡◌, ◌+◌, ◌-◌, ◌*◌, ◌≤◌, length, get_or}
+use Rattle.std.specs.Prelude.{◌≡◌, ◌+◌, ◌-◌, ◌*◌, length, get_or}
 use mathlib.Core.Path.{sym, ap, ◌∙◌}
-use borrow.Author.Rules.{rules}
 use native.Mathlib.Omega.{arith}
 use Rattle.formatting.specs.Escape.{escape_of, quoted}
 use Rattle.pwrapper.specs.QuotedCount.{count_of}
-use Rattle.pwrapper.proofs.Escapes.{Passed, escape_length, none_passed, byte_passed, all-passed, count_fits}
+use Rattle.pwrapper.proofs.Escapes.{escape_length, none_passed, byte_passed, all-passed, count_fits}
 use Rattle.pwrapper.proofs.quoted.few_len.Goals as goal
 use Rattle.pwrapper.proofs.quoted.few_len.Goals.{then-is_escaped+then-is_backslash_escaped, then-is_escaped+else-is_backslash_escaped, else-is_escaped}
 
@@ -27,9 +26,9 @@ loop-i-preserved c =
     let h = c.loop-i-test.true in
     let escapes = sym c.is_escaped.ensures in
     elim c.if-is_escaped.branch [
-      then-is_escaped+then-is_backslash_escaped w ↦
-        rw (w.letters-is, w.codes-is) (next _ h (omega (arith, rw (escapes ∙ w.if-is_escaped.true, sym w.is_backslash_escaped.ensures ∙ w.if-is_backslash_escaped.true) at n)), omega arith)
+      | then-is_escaped+then-is_backslash_escaped w ↦
+          rw (w.letters-is, w.codes-is) (next _ h (omega (arith, rw (escapes ∙ w.if-is_escaped.true, sym w.is_backslash_escaped.ensures ∙ w.if-is_backslash_escaped.true) at n)), omega arith)
       | then-is_escaped+else-is_backslash_escaped w ↦
-        rw (w.letters-is, w.codes-is) (next _ h (omega (arith, rw (escapes ∙ w.if-is_escaped.true, sym w.is_backslash_escaped.ensures ∙ w.if-is_backslash_escaped.false) at n)), omega arith)
+          rw (w.letters-is, w.codes-is) (next _ h (omega (arith, rw (escapes ∙ w.if-is_escaped.true, sym w.is_backslash_escaped.ensures ∙ w.if-is_backslash_escaped.false) at n)), omega arith)
       | else-is_escaped w ↦ rw (w.letters-is, w.codes-is) (next _ h (omega (arith, rw (escapes ∙ w.if-is_escaped.false) at n)), omega arith)
     ]

@@ -1,4 +1,3 @@
-use borrow.Author.Rules.{rules}
 use mathlib.Core.Path.{sym}
 use lib.Count.{leading_le}
 use Rattle.pwrapper.specs.Digits.{digits, digits_in}

@@ -1,4 +1,3 @@
-use borrow.Author.Rules.{rules}
 use mir.Syntax.{w64}
 use mir.ValLaws.{to_z-of_z}
 use Rattle.pwrapper.proofs.radix.binary_len_i64.Goals as goal

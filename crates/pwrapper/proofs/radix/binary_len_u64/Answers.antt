@@ -1,4 +1,3 @@
-use borrow.Author.Rules.{rules}
 use native.Mathlib.Omega.{arith}
 use lib.Dec.{lit≤}
 use Rattle.pwrapper.specs.Digits.{dec_digit}

@@ -1,4 +1,3 @@
-use borrow.Author.Rules.{rules}
 use mir.Syntax.{w8}
 use mir.ValLaws.{to_z-of_z}
 use Rattle.pwrapper.proofs.radix.hexadecimal_len_i8.Goals as goal

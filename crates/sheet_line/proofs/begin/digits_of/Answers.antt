@@ -1,4 +1,3 @@
-use borrow.Author.Rules.{rules}
 use Rattle.sheet_line.specs.Begin.{digits_of}
 use Rattle.sheet_line.proofs.begin.digits_of.Goals as goal
 

@@ -1,4 +1,3 @@
-use borrow.Author.Rules.{rules}
 use Rattle.sheet_line.proofs.Splits.{fields-last, fields-cut, flags_many}
 use Rattle.sheet_line.proofs.begin.flag_fields.Goals as goal
 

@@ -1,4 +1,3 @@
-use borrow.Author.Rules.{rules}
 use Rattle.sheet_line.proofs.begin.flags_of.Goals as goal
 
 pub returns-in_default : goal.returns-in_default

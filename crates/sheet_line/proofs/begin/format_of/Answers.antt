@@ -1,4 +1,3 @@
-use borrow.Author.Rules.{rules}
 use Rattle.sheet_line.specs.Begin.{format_of}
 use Rattle.sheet_line.proofs.begin.format_of.Goals as goal
 

@@ -1,6 +1,5 @@
-use borrow.Author.Tests.{lt-ltb, le-ltb, not-true, not-false}
 use borrow.Author.Tests.{lt-ltb, le-ltb}
-use borrow.Author.Rules.{rules}
+use borrow.Author.Tests.{lt-ltb, le-ltb}
 use Rattle.sheet_line.specs.Begin.{begin_of}
 use Rattle.sheet_line.proofs.Splits.{fields-last, fields-cut, no_sizes}
 use Rattle.sheet_line.proofs.Splits.{fields-last, fields-cut}

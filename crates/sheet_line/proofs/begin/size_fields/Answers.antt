@@ -1,4 +1,3 @@
-use borrow.Author.Rules.{rules}
 use Rattle.sheet_line.proofs.Splits.{fields-last, fields-cut, no_flags}
 use Rattle.sheet_line.proofs.Splits.{fields-last, fields-cut}
 use Rattle.sheet_line.proofs.begin.size_fields.Goals as goal

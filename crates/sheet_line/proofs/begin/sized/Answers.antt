@@ -1,5 +1,4 @@
 use borrow.Author.Tests.{lt-ltb, le-ltb}
-use borrow.Author.Rules.{rules}
 use Rattle.sheet_line.proofs.begin.sized.Goals as goal
 
 pub returns-then-size-at : goal.returns-then-size-at

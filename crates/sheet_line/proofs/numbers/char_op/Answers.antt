@@ -1,6 +1,5 @@
 use mathlib.Core.Path.{refl}
 use native.Mathlib.Omega.{arith}
-use borrow.Author.Rules.{rules}
 use Rattle.sheet_line.proofs.Decimals.{is_read, other-read, in_limit}
 use Rattle.sheet_line.proofs.numbers.char_op.Goals as goal
 

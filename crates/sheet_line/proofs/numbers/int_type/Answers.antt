@@ -1,4 +1,3 @@
-use borrow.Author.Rules.{rules}
 use Rattle.sheet_line.specs.Line.{type_of}
 use Rattle.sheet_line.proofs.numbers.int_type.Goals as goal
 

@@ -1,5 +1,4 @@
 use native.Mathlib.Omega.{arith}
-use borrow.Author.Rules.{rules}
 use Rattle.sheet_line.proofs.Decimals.{complement}
 use Rattle.sheet_line.proofs.numbers.negative_op.Goals as goal
 

@@ -1,4 +1,3 @@
-use borrow.Author.Rules.{rules}
 use Rattle.sheet_line.proofs.numbers.num_op.Goals as goal
 
 pub returns-in-Unsigned : goal.returns-in-Unsigned

@@ -1,6 +1,5 @@
 use Prim.Native.Nat.{◌-◌, ◌^◌}
 use native.Mathlib.Omega.{arith}
-use borrow.Author.Rules.{rules}
 use Rattle.value_writes.specs.Values.{bits_of}
 use Rattle.sheet_line.proofs.Decimals.{is_read, other-read}
 use Rattle.sheet_line.proofs.numbers.unsigned_op.Goals as goal

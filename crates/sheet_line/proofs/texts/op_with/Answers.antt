@@ -1,4 +1,3 @@
-use borrow.Author.Rules.{rules}
 use Rattle.sheet_line.proofs.texts.op_with.Goals as goal
 
 pub returns-in-Open : goal.returns-in-Open

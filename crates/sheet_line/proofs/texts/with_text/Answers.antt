@@ -1,4 +1,3 @@
-use borrow.Author.Rules.{rules}
 use Rattle.sheet_line.proofs.Readings.{text-read, not-read}
 use Rattle.sheet_line.proofs.texts.with_text.Goals as goal
 

@@ -5,7 +5,6 @@ use native.Mathlib.Omega.{arith}
 use borrow.Author.Tests.{lt-ltb, le-ltb}
 use Rattle.formatting.specs.FlagsAsNumber.{flags_of}
 use Rattle.str_writer.specs.Value.{debug, text_of}
-use borrow.Author.Rules.{rules}
 use Rattle.single_writes.proofs.Counting.{counts-integer}
 use Rattle.single_writes.proofs.counts.single_count_i16_debug.Goals as goal
 

@@ -2,7 +2,6 @@ use mir.Syntax.{w8}
 use mir.ValLaws.{to_z-of_z}
 use Rattle.formatting.specs.Flags.{default_flags}
 use Rattle.str_writer.specs.Value.{display, text_of}
-use borrow.Author.Rules.{rules}
 use Rattle.single_writes.proofs.Counting.{counts-integer}
 use Rattle.single_writes.proofs.counts.single_count_i8_display.Goals as goal
 

@@ -1,7 +1,6 @@
 use lib.IntN.{pos}
 use Rattle.formatting.specs.Flags.{default_flags}
 use Rattle.str_writer.specs.Value.{display, text_of}
-use borrow.Author.Rules.{rules}
 use Rattle.single_writes.proofs.Counting.{counts-integer}
 use Rattle.single_writes.proofs.counts.single_count_u32_display.Goals as goal
 

@@ -1,7 +1,6 @@
 use mir.Syntax.{w64}
 use mir.ValLaws.{to_z-of_z}
 use mathlib.Core.Path.{◌∙◌}
-use borrow.Author.Rules.{rules}
 use Rattle.single_writes.proofs.integers.single_to_integer_i64.Goals as goal
 
 pub returns : goal.returns

@@ -1,5 +1,4 @@
 use mathlib.Core.Path.{◌∙◌}
-use borrow.Author.Rules.{rules}
 use Rattle.single_writes.proofs.integers.single_to_integer_u64.Goals as goal
 
 pub returns : goal.returns

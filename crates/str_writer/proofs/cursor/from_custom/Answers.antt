@@ -1,5 +1,4 @@
 use mathlib.Core.Path.{refl}
-use borrow.Author.Rules.{rules}
 use Rattle.str_writer.proofs.Truncation.{start-told}
 use Rattle.str_writer.proofs.cursor.from_custom.Goals as goal
 

@@ -1,8 +1,6 @@
 use mathlib.Core.Path.{refl, sym, ◌∙◌}
 use Prim.Native.Nat.{◌≤◌}
 use lib.ListN.{length}
-use borrow.Author.Tests.{not-true, not-false}
-use borrow.Author.Rules.{rules}
 use Rattle.str_writer.proofs.Judging.{cursor-fits}
 use Rattle.str_writer.proofs.Truncation.{cut-met, cut-above, cut-done}
 use Rattle.str_writer.proofs.cursor.truncate.Goals as goal

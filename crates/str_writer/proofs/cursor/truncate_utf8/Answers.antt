@@ -3,8 +3,6 @@ use mathlib.Core.List.{List}
 use mathlib.Core.Path.{◌≡◌, refl, sym, ap, ◌∙◌}
 use Prim.Native.Nat.{ℕ, ◌≤◌}
 use lib.ListN.{length}
-use borrow.Author.Tests.{not-true, not-false}
-use borrow.Author.Rules.{rules}
 use Rattle.error.specs.declared.Answer.TheVariants.{Done, NotOnCharBoundary}
 use Rattle.utils.specs.Text.{is_boundary}
 use Rattle.str_writer.specs.Truncate.{truncated_utf8}

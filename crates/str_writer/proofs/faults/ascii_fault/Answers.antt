@@ -1,5 +1,4 @@
 use mathlib.Core.Path.{ap, ◌∙◌}
-use borrow.Author.Rules.{rules}
 use Rattle.ascii_str.specs.Ascii.{ascii_answer}
 use Rattle.str_writer.proofs.Judging.{ascii-tested}
 use Rattle.str_writer.proofs.faults.ascii_fault.Goals as goal

@@ -1,6 +1,4 @@
 use mathlib.Core.Path.{sym, ap, ◌∙◌}
-use borrow.Author.Tests.{not-true, not-false}
-use borrow.Author.Rules.{rules}
 use Rattle.error.specs.Answer.{answer_of}
 use Rattle.str_writer.proofs.Values.{char-fault, char_fine}
 use Rattle.str_writer.proofs.faults.char_fault.Goals as goal

@@ -1,7 +1,5 @@
 use mathlib.Core.Path.{sym, ◌∙◌}
 use mathlib.Core.List.{[], ◌∷◌}
-use borrow.Author.Tests.{not-true, not-false}
-use borrow.Author.Rules.{rules}
 use Rattle.str_writer.specs.Value.{ascii, input_fault, cut_fault}
 use Rattle.str_writer.proofs.Values.{ascii_uncut}
 use Rattle.str_writer.proofs.Judging.{judged-cursor, judged-input, judged-whole}

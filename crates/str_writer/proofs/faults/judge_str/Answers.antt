@@ -1,7 +1,5 @@
 use mathlib.Core.Path.{sym, ◌∙◌}
 use mathlib.Core.List.{[], ◌∷◌}
-use borrow.Author.Tests.{not-true, not-false}
-use borrow.Author.Rules.{rules}
 use Rattle.str_writer.specs.Value.{str, input_fault}
 use Rattle.str_writer.proofs.Judging.{str-tested, judged-cursor, judged-input}
 use Rattle.str_writer.proofs.faults.judge_str.Goals as goal

@@ -1,8 +1,6 @@
 use mathlib.Core.Path.{sym, ap, ◌∙◌}
 use lib.ListN.{replicate, length-replicate}
 use Prim.Native.Nat.{ℕ, ◌≤◌}
-use borrow.Author.Tests.{not-true, not-false}
-use borrow.Author.Rules.{rules}
 use Rattle.str_writer.specs.Write.{Outcome}
 use Rattle.str_writer.proofs.Judging.{cursor-fits, put-cursor}
 use Rattle.str_writer.proofs.faults.piece_fault.Goals as goal

@@ -1,6 +1,4 @@
 use mathlib.Core.Path.{sym, ◌∙◌}
-use borrow.Author.Tests.{not-true, not-false}
-use borrow.Author.Rules.{rules}
 use Rattle.str_writer.proofs.Judging.{text_bad, text-done}
 use Rattle.str_writer.proofs.faults.str_fault.Goals as goal
 

@@ -1,6 +1,5 @@
 use native.Mathlib.Omega.{arith}
 use lib.ListN.{length-set}
-use borrow.Author.Rules.{rules}
 use Rattle.str_writer.proofs.Splice.{few_none, few_one, few_two, few_three, few_four}
 use Rattle.str_writer.proofs.piece.copy_few.Goals as goal
 

@@ -2,8 +2,6 @@ use mathlib.Core.Path.{refl, sym, ◌∙◌}
 use native.Mathlib.Omega.{arith}
 use Prim.Native.Nat.{◌-◌, ◌≤◌}
 use lib.ListN.{length}
-use borrow.Author.Tests.{not-true, not-false}
-use borrow.Author.Rules.{rules}
 use Rattle.str_writer.proofs.Outcomes.{put-done}
 use Rattle.str_writer.proofs.Judging.{put-met, put-fits}
 use Rattle.str_writer.proofs.piece.put.Goals as goal

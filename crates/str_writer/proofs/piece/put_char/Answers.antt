@@ -1,7 +1,6 @@
-use borrow.Author.Rules.{rules}
 use Rattle.char_encoding.specs.Char.{char_display}
 use Rattle.char_encoding.proofs.Laws.{display-ascii}
-use Rattle.str_writer.proofs.Values.{encoded-end, encoded-part}
+use Rattle.str_writer.proofs.Values.{encoded-part}
 use Rattle.str_writer.proofs.piece.put_char.Goals as goal
 
 pub returns-then-c-lt128 : goal.returns-then-c-lt128

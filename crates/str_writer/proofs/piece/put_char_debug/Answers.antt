@@ -1,6 +1,5 @@
-use borrow.Author.Rules.{rules}
 use Rattle.char_encoding.specs.Char.{char_debug}
-use Rattle.str_writer.proofs.Values.{encoded-end, encoded-part}
+use Rattle.str_writer.proofs.Values.{encoded-part}
 use Rattle.str_writer.proofs.piece.put_char_debug.Goals as goal
 
 pub returns : goal.returns

@@ -1,5 +1,4 @@
-use borrow.Author.Rules.{rules}
-use Rattle.pwrapper.proofs.Ranges.{clamped_order, clamped_end, clamped_part}
+use Rattle.pwrapper.proofs.Ranges.{clamped_order, clamped_part}
 use Rattle.str_writer.proofs.piece.put_part.Goals as goal
 
 pub slice_bounds-put-count : goal.slice_bounds-put-count

@@ -3,8 +3,6 @@ use mathlib.Core.List.{List}
 use native.Mathlib.Omega.{arith}
 use Prim.Native.Nat.{ℕ, ◌-◌, ◌%◌, ◌≤◌}
 use lib.ListN.{length, replicate, length-replicate}
-use borrow.Author.Tests.{not-true, not-false}
-use borrow.Author.Rules.{rules}
 use Rattle.formatting.specs.Flags.{default_flags}
 use Rattle.str_writer.proofs.Values.{repeated-write, repeated-done}
 use Rattle.str_writer.proofs.Judging.{put-met, put-fits}

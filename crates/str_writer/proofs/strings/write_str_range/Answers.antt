@@ -1,6 +1,4 @@
 use mathlib.Core.Path.{◌≡◌, refl, sym, ◌∙◌}
-use borrow.Author.Tests.{not-true, not-false}
-use borrow.Author.Rules.{rules}
 use Rattle.error.specs.Answer.{answer_of}
 use Rattle.formatting.specs.Flags.{default_flags}
 use Rattle.str_writer.specs.Value.{str, display}

@@ -1,4 +1,3 @@
-use borrow.Author.Rules.{rules}
 use mathlib.Core.Path.{sym, ◌∙◌}
 use Rattle.writer_backend.proofs.Sequence.{held}
 use Rattle.writer_backend.proofs.pieces.first.Goals as goal

@@ -1,4 +1,3 @@
-use borrow.Author.Rules.{rules}
 use mathlib.Core.Path.{refl, ap, ◌∙◌}
 use Rattle.error.specs.Answer.{number_of}
 use Rattle.writer_backend.proofs.Output.{counts, writes}

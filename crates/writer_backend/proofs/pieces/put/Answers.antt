@@ -1,4 +1,3 @@
-use borrow.Author.Rules.{rules}
 use mathlib.Core.Path.{refl, ap, ◌∙◌}
 use Rattle.calls.specs.Model.{wrote}
 use Rattle.writer_backend.proofs.Output.{adds, wrote_at, writes, put_past, put-writes}

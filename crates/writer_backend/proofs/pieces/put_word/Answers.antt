@@ -1,4 +1,3 @@
-use borrow.Author.Rules.{rules}
 use Rattle.writer_backend.proofs.pieces.put_word.Goals as goal
 
 pub returns : goal.returns

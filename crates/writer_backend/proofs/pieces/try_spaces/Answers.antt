@@ -1,4 +1,3 @@
-use borrow.Author.Rules.{rules}
 use mathlib.Core.Path.{◌∙◌}
 use Rattle.writer_backend.specs.Pieces.{try_on}
 use Rattle.writer_backend.proofs.pieces.try_spaces.Goals as goal

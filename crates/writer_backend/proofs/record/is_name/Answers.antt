@@ -1,5 +1,4 @@
 use Rattle.utf8.specs.Utf8.{continues}
-use borrow.Author.Rules.{rules}
 use Rattle.writer_backend.proofs.record.is_name.Goals as goal
 
 pub returns-in-Struct : goal.returns-in-Struct

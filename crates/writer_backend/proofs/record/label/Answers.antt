@@ -1,4 +1,3 @@
-use borrow.Author.Rules.{rules}
 use Rattle.writer_backend.proofs.record.label.Goals as goal
 
 pub returns-in-Field : goal.returns-in-Field

@@ -1,5 +1,3 @@
-use borrow.Author.Rules.{rules}
-use borrow.Author.Tests.{not-true, not-false}
 use Rattle.writer_backend.proofs.Sequence.{kind_any}
 use Rattle.writer_backend.proofs.record.place_fault.Goals as goal
 

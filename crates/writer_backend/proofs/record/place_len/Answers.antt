@@ -1,4 +1,3 @@
-use borrow.Author.Rules.{rules}
 use Rattle.writer_backend.specs.Pieces.{place_of}
 use Rattle.writer_backend.proofs.Sequence.{pieces-length}
 use Rattle.writer_backend.proofs.record.place_len.Goals as goal

@@ -1,4 +1,3 @@
-use borrow.Author.Rules.{rules}
 use mathlib.Core.Path.{◌∙◌}
 use Rattle.writer_backend.specs.Output.{output_of}
 use Rattle.writer_backend.proofs.Sequence.{tries-one}

@@ -1,4 +1,3 @@
-use borrow.Author.Rules.{rules}
 use Rattle.writer_backend.proofs.record.try_margin.Goals as goal
 
 pub returns-then-alt : goal.returns-then-alt

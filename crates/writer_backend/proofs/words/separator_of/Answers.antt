@@ -1,4 +1,3 @@
-use borrow.Author.Rules.{rules}
 use Rattle.writer_backend.proofs.words.separator_of.Goals as goal
 
 pub returns-then-has : goal.returns-then-has

@@ -1,4 +1,3 @@
-use borrow.Author.Rules.{rules}
 use Rattle.formatter.specs.View.{depth_of}
 use Rattle.formatter.proofs.head.Head.new.Goals as goal
 
