@@ -107,9 +107,6 @@ module _ (n p : ℕ) (f : FormattingFlags) where
 
 -- the stage that a state is
 module _ (h : State) (c w b : List ℕ) where
-  pub stopped_over : h.going ≡ false → stage_of h c w b ≡ over
-  stopped_over e = rw e
-
   pub halted_over : (h₀ : State) → h ≡ stopped_of h₀ → stage_of h c w b ≡ over
   halted_over h₀ e = rw e
 
@@ -121,12 +118,6 @@ module _ (h : State) (c w b : List ℕ) where
 
   -- the last line
   module _ (out : List ℕ) (at : ℕ) where
-    pub end-over : h.going ≡ false → take at out ≡ take at out ++ left (stage_of h c w b) []
-    end-over e = rw (stopped_over e, append-nil (take at out))
-
-    pub end-first : h.going ≡ true → h.line ≡ 1 → take at out ≡ take at out ++ left (stage_of h c w b) []
-    end-first e f = rw (stage-first e f, append-nil (take at out))
-
     module _ (s after : List ℕ) (v : Written) (q : s ≡ take h.size b) (k : h.size ≤ 4096) (r : at + 8239 ≤ length out) (n : length (end_text (sheet_of h.sheet c w s)) ≤ 47 + 2 * length s) (p : outcome v after ≡ put out at (end_text (sheet_of h.sheet c w s))) where
       end_fits : at + length (end_text (sheet_of h.sheet c w s)) ≤ at + 8239
       end_fits = let m : length s ≤ 4096 = rw (q, length-take) (omega arith) in omega arith
@@ -136,10 +127,6 @@ module _ (h : State) (c w b : List ℕ) where
 
       pub end_later : h.going ≡ true → (h.line ≡ 1 → ⊥) → take v.at after ≡ take at out ++ left (stage_of h c w b) []
       end_later e f = let g = end_fits in rw (stage-later e f, ← q) (text-told out at (end_text (sheet_of h.sheet c w s)) v after p (omega arith))
-
--- a line after the run's end
-pub answers_stopped : (h : State) (c w b : List ℕ) (l out : List ℕ) (at : ℕ) → h.going ≡ false → Answers (stage_of h c w b) (stage_of h c w b) l out out at at
-answers_stopped h c w b l out at e = record { prints = λ ls. rw (stopped_over h c w b e); short = omega arith }
 
 -- a line of a run that has begun
 left-next : (t : Bool) (k : ℕ) (S : Sheet) (ls : List (List ℕ)) → left (cond t (later (k + 1) S) over) ls ≡ cond t (printed_from (suc k) S ls) []

@@ -28,13 +28,6 @@ written-done h done e = rw e
 pub written_failed : (h : Stream) (done : Bool) → done ≡ false → halted_of (emptied_of h) ≡ after_write h done
 written_failed h done e = rw e
 
--- a promise for what is ready and one for what is not: one of the two is kept
-pub when_ready : {P A B : Type 0} → P → A → (P → A) × ((P → ⊥) → B)
-when_ready p x = ((λ q. x), λ f. absurd (f p))
-
-pub when_not_ready : {P A B : Type 0} → (P → ⊥) → B → (P → A) × ((P → ⊥) → B)
-when_not_ready f x = ((λ q. absurd (f q)), λ g. x)
-
 -- what is not ready
 pub not-ready : (h : Stream) (b out : List ℕ) → (Ready h b out → ⊥) → (false ≡ true → Ready h b out) × (false ≡ false → Ready h b out → ⊥)
 not-ready h b out f = ((λ e. absurd (apart false e refl)), λ e. f)
