@@ -1,15 +1,11 @@
 -- `utf8::is_ascii` meets its contract. The loop's invariant: every byte passed is below 80.
-use mathlib.Core.Bool.{true≢false}
-use mathlib.Core.Path.{refl, sym}
+use mathlib.Core.Path.{refl}
 use Prim.Native.Nat.{◌≤◌, ◌-◌}
 use native.Mathlib.Omega.{arith}
 use lib.ListN.{get_or}
 use borrow.Author.Count.{below_more}
 use borrow.Author.Rules.{rules}
 use Rattle.utf8.proofs.is_ascii.Goals as goal
-
-pub returns-then-s-i-gt127 : goal.returns-then-s-i-gt127
-returns-then-s-i-gt127 c = (λ e. absurd (true≢false (sym e)), λ h. absurd (omega (arith, h c.loop-i.i c.loop-i-test.true, c.if-s-i-gt127.true)))
 
 pub loop-i-preserved : goal.loop-i-preserved
 loop-i-preserved c = let l = c.loop-i in
