@@ -11,9 +11,9 @@ mod texts;
 
 use fields::{first_field, index_of, later_fields, place_of, put_hex};
 use integer_writes::write_u64_display;
-use libc::{STDIN_FILENO, STDOUT_FILENO};
 use line_input::read_more;
 use lines::{MAX_LINE, Reader, next_line, part};
+use std::io::{self, Write};
 use str_writer::put;
 use utils::slice_up_to_len;
 
@@ -127,7 +127,9 @@ fn answer(line: &[u8], out: &mut [u8]) -> usize {
     put(out, 0, b"bad\n").at
 }
 
-fn main() {
+fn main(rt: HostRuntime) -> io::Result<()> {
+    let mut input = rt.stdin();
+    let mut output = rt.stdout();
     let mut input_bytes = [0u8; 65536];
     let mut output_bytes = [0u8; 65536];
     let space: &mut [u8] = &mut input_bytes;
@@ -141,13 +143,14 @@ fn main() {
         let is_line = taken.is_line;
         if is_line {
             let end = answer(part(space, taken.start, taken.end), out);
-            io::write_all(STDOUT_FILENO, slice_up_to_len(out, end));
+            output.write_all(slice_up_to_len(out, end))?;
             continue;
         }
         let ended = reader.ended;
         if ended {
             break;
         }
-        reader = read_more(reader, STDIN_FILENO, space);
+        reader = read_more(reader, &mut input, space);
     }
+    Ok(())
 }

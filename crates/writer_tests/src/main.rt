@@ -12,10 +12,10 @@ use cursor::cursor_call;
 use fields::{Number, first_field, later_fields, number, place_of, same};
 use integers::{debug_call, display_call};
 use lent::{truncate_call, twice_call};
-use libc::{STDIN_FILENO, STDOUT_FILENO};
 use line_input::read_more;
 use lines::{MAX_LINE, Reader, next_line, part};
 use print::put_result;
+use std::io::{self, Write};
 use str_writer::put;
 use texts::{Played, char_call, range_call, repeated_call, text_call};
 use utils::slice_up_to_len;
@@ -116,7 +116,9 @@ fn answer(line: &[u8], out: &mut [u8]) -> usize {
     w.at
 }
 
-fn main() {
+fn main(rt: HostRuntime) -> io::Result<()> {
+    let mut input = rt.stdin();
+    let mut output = rt.stdout();
     let mut input_bytes = [0u8; 65536];
     let mut output_bytes = [0u8; 65536];
     let space: &mut [u8] = &mut input_bytes;
@@ -130,13 +132,14 @@ fn main() {
         let is_line = taken.is_line;
         if is_line {
             let end = answer(part(space, taken.start, taken.end), out);
-            io::write_all(STDOUT_FILENO, slice_up_to_len(out, end));
+            output.write_all(slice_up_to_len(out, end))?;
             continue;
         }
         let ended = reader.ended;
         if ended {
             break;
         }
-        reader = read_more(reader, STDIN_FILENO, space);
+        reader = read_more(reader, &mut input, space);
     }
+    Ok(())
 }
