@@ -11,11 +11,11 @@ use calls::Settings;
 use fields::{Number, first_field, index_of, later_fields, number};
 use formatter_by_value::{Formatter, FormatterStep};
 use formatting::flags_of;
-use libc::{STDIN_FILENO, STDOUT_FILENO};
 use line_input::read_more;
 use lines::{MAX_LINE, Reader, next_line, part};
 use play::play;
 use print::{put_bytes, put_call};
+use std::io::{self, Write};
 use str_writer::put;
 use utils::slice_up_to_len;
 
@@ -100,7 +100,9 @@ fn answer(line: &[u8], out: &mut [u8]) -> usize {
     end
 }
 
-fn main() {
+fn main(rt: HostRuntime) -> io::Result<()> {
+    let mut input = rt.stdin();
+    let mut output = rt.stdout();
     let mut input_bytes = [0u8; 65536];
     let mut output_bytes = [0u8; 65536];
     let space: &mut [u8] = &mut input_bytes;
@@ -114,13 +116,14 @@ fn main() {
         let is_line = taken.is_line;
         if is_line {
             let end = answer(part(space, taken.start, taken.end), out);
-            io::write_all(STDOUT_FILENO, slice_up_to_len(out, end));
+            output.write_all(slice_up_to_len(out, end))?;
             continue;
         }
         let ended = reader.ended;
         if ended {
             break;
         }
-        reader = read_more(reader, STDIN_FILENO, space);
+        reader = read_more(reader, &mut input, space);
     }
+    Ok(())
 }
