@@ -5,10 +5,10 @@
 mod line;
 
 use fields::put_number;
-use libc::{STDIN_FILENO, STDOUT_FILENO};
 use line::is_same;
 use line_input::read_more;
 use lines::{MAX_LINE, Reader, next_line, part};
+use std::io::{self, Write};
 use str_writer::write_ascii;
 use utils::slice_up_to_len;
 
@@ -32,7 +32,9 @@ fn put_last(replayed: u64, differ: u64, out: &mut [u8]) -> usize {
     end.at
 }
 
-fn main() {
+fn main(rt: HostRuntime) -> io::Result<()> {
+    let mut input = rt.stdin();
+    let mut output = rt.stdout();
     let mut input_bytes = [0u8; 65536];
     let mut output_bytes = [0u8; 65536];
     let space: &mut [u8] = &mut input_bytes;
@@ -53,15 +55,15 @@ fn main() {
                 continue;
             }
             differ += 1;
-            io::write_all(STDOUT_FILENO, slice_up_to_len(out, end));
+            output.write_all(slice_up_to_len(out, end))?;
             continue;
         }
         let ended = reader.ended;
         if ended {
             break;
         }
-        reader = read_more(reader, STDIN_FILENO, space);
+        reader = read_more(reader, &mut input, space);
     }
     let end = put_last(replayed, differ, out);
-    io::write_all(STDOUT_FILENO, slice_up_to_len(out, end));
+    output.write_all(slice_up_to_len(out, end))
 }
