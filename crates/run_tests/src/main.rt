@@ -8,12 +8,12 @@ mod print;
 use calls::Settings;
 use fields::index_of;
 use formatting::FormattingFlags;
-use libc::{STDIN_FILENO, STDOUT_FILENO};
 use line::{Head, name_of, read_head, read_run};
 use line_input::read_more;
 use lines::{MAX_LINE, Reader, next_line, part};
 use print::{put_added, put_both, put_calls, put_each, put_ran, show};
 use run::{Ran, count_run_from, write_run};
+use std::io::{self, Write};
 use str_writer::{write_ascii, write_ascii_repeated};
 use utils::slice_up_to_len;
 
@@ -89,7 +89,9 @@ fn answer(line: &[u8], out: &mut [u8]) -> usize {
     answer_run(line, &mut words, &mut pool, out)
 }
 
-fn main() {
+fn main(rt: HostRuntime) -> io::Result<()> {
+    let mut input = rt.stdin();
+    let mut output = rt.stdout();
     let mut input_bytes = [0u8; 65536];
     let mut output_bytes = [0u8; 65536];
     let space: &mut [u8] = &mut input_bytes;
@@ -103,13 +105,14 @@ fn main() {
         let is_line = taken.is_line;
         if is_line {
             let end = answer(part(space, taken.start, taken.end), out);
-            io::write_all(STDOUT_FILENO, slice_up_to_len(out, end));
+            output.write_all(slice_up_to_len(out, end))?;
             continue;
         }
         let ended = reader.ended;
         if ended {
             break;
         }
-        reader = read_more(reader, STDIN_FILENO, space);
+        reader = read_more(reader, &mut input, space);
     }
+    Ok(())
 }
