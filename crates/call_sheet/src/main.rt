@@ -2,13 +2,15 @@
 // memory is of fixed size, whatever the input's length.
 #![tactic(auto)]
 
-use libc::{STDIN_FILENO, STDOUT_FILENO};
 use line_input::read_more;
 use sheet_line::MAX_SIZE;
 use sheet_stream::{emptied, fed, is_due, start, step};
+use std::io::Write;
 use utils::slice_up_to_len;
 
-fn main() {
+fn main(rt: HostRuntime) {
+    let mut input = rt.stdin();
+    let mut output = rt.stdout();
     let mut input_bytes = [0u8; 65536];
     let mut output_bytes = [0u8; 65536];
     let mut run_bytes = [0u8; MAX_SIZE];
@@ -26,7 +28,8 @@ fn main() {
         if !is_due(h) {
             continue;
         }
-        let done = io::write_all(STDOUT_FILENO, slice_up_to_len(out, h.printed));
+        let printed = slice_up_to_len(out, h.printed);
+        let done = output.write_all(printed).is_ok();
         h = emptied(h, done);
         let state = h.state;
         let going = state.going;
@@ -36,7 +39,7 @@ fn main() {
         let waits = h.waits;
         if waits {
             let reader = h.reader;
-            h = fed(h, read_more(reader, STDIN_FILENO, space));
+            h = fed(h, read_more(reader, &mut input, space));
         }
     }
 }
