@@ -1,19 +1,22 @@
 // Call sheets read from the files that the arguments name, by the loop of the program `call_sheet`.
 // A line with the file's name stands before what its sheet prints. Behind the argument `closed` the
-// sheets are answered on no descriptor, behind `full` on a device that is full, and what is printed
-// is how many bytes of the file were not read.
+// sheets are answered on a file that is open for reading only, behind `full` on a device that is
+// full, and what is printed is how many bytes of the file were not read.
 #![tactic(auto)]
 
 use fields::{put_number, same};
-use libc::STDOUT_FILENO;
 use line_input::read_more;
 use sheet_line::MAX_SIZE;
 use sheet_stream::{emptied, fed, is_due, start, step};
+use std::env::{Env, FillError};
+use std::fs::File;
+use std::io::{self, Read, Write};
+use std::rt::Files;
 use str_writer::write_ascii;
 use utils::slice_up_to_len;
 
 // Reads a sheet and answers it.
-fn play(input: i32, output: i32) {
+fn play<R: Read, W: Write>(input: &mut R, output: &mut W) {
     let mut input_bytes = [0u8; 65536];
     let mut output_bytes = [0u8; 65536];
     let mut run_bytes = [0u8; MAX_SIZE];
@@ -31,7 +34,8 @@ fn play(input: i32, output: i32) {
         if !is_due(h) {
             continue;
         }
-        let done = io::write_all(output, slice_up_to_len(out, h.printed));
+        let printed = slice_up_to_len(out, h.printed);
+        let done = output.write_all(printed).is_ok();
         h = emptied(h, done);
         let state = h.state;
         let going = state.going;
@@ -47,9 +51,17 @@ fn play(input: i32, output: i32) {
 }
 
 // How many bytes are left to read, at most 131,072.
-fn unread(input: i32) -> u64 {
+fn unread<R: Read>(input: &mut R) -> u64 {
     let mut space = [0u8; 131072];
-    io::read_full(input, &mut space) as u64
+    let mut n = 0;
+    while n < space.len() {
+        let more = input.read(&mut space[n..]).unwrap_or(0);
+        if more == 0 {
+            break;
+        }
+        n += more;
+    }
+    n as u64
 }
 
 // Lays a text, a name and a line feed.
@@ -59,50 +71,66 @@ fn lay_name(out: &mut [u8], s: &[u8], name: &[u8]) -> usize {
     write_ascii(out, named.at, b"\n").at
 }
 
-// Where the sheets behind a word are answered: `closed`, `full`, or as before.
-fn output_of(word: &[u8], output: i32) -> i32 {
+// Where the sheets behind the word `closed` or `full` are answered, so that each write fails; None
+// at another word.
+fn output_of<R: Files>(rt: &R, word: &[u8]) -> io::Result<Option<R::File>> {
     if same(word, b"closed") {
-        return -1;
+        return Ok(Some(File::open(rt, "/dev/null")?));
     }
     if same(word, b"full") {
-        return os::open_overwrite(b"/dev/full");
+        return Ok(Some(File::create(rt, "/dev/full")?));
     }
-    output
+    Ok(None)
 }
 
-// Plays the sheet of a file, and lays what is to be printed behind it.
-fn played(path: &[u8], output: i32, out: &mut [u8]) -> usize {
-    let input = os::open_read(path);
-    if input < 0 {
+// The file of a name, open for reading.
+fn opened<R: Files>(rt: &R, path: &[u8]) -> Option<R::File> {
+    let name = str::from_utf8(path).ok()?;
+    File::open(rt, name).ok()
+}
+
+// Plays the sheet of a file, on standard output where no other output is given, and lays what is to
+// be printed behind it.
+fn played<R: Files + Print>(
+    rt: &R,
+    path: &[u8],
+    output: &mut Option<R::File>,
+    out: &mut [u8],
+) -> usize {
+    let Some(mut input) = opened(rt, path) else {
         return lay_name(out, b"not opened: ", path);
-    }
-    play(input, output);
-    if output == STDOUT_FILENO {
-        libc::close(input);
+    };
+    let Some(file) = output else {
+        play(&mut input, &mut io::writer(rt));
         return 0;
-    }
-    let left = unread(input);
-    libc::close(input);
+    };
+    play(&mut input, file);
+    let left = unread(&mut input);
     let number = put_number(out, 0, left, b' ');
     write_ascii(out, number.at, b"bytes are not read\n").at
 }
 
-fn main() {
+fn main(rt: HostRuntime) -> io::Result<()> {
     let mut output_bytes = [0u8; 8192];
     let out: &mut [u8] = &mut output_bytes;
-    let mut output = STDOUT_FILENO;
-    for i in 1..os::arg_count() {
-        let mut word = io::buffer();
-        let length = os::arg(i, &mut word);
+    let mut output = None;
+    for i in 1..usize::MAX {
+        let mut word = [0u8; 4096];
+        let length = match rt.arg(i, &mut word) {
+            Ok(length) => length,
+            Err(FillError::TooLong) => 0,
+            Err(FillError::NotPresent) => break,
+        };
         let path = &word[..length];
-        let next = output_of(path, output);
-        if next != output {
+        let next = output_of(&rt, path)?;
+        if next.is_some() {
             output = next;
             continue;
         }
         let named = lay_name(out, b"== ", path);
-        io::write_all(STDOUT_FILENO, slice_up_to_len(out, named));
-        let end = played(path, output, out);
-        io::write_all(STDOUT_FILENO, slice_up_to_len(out, end));
+        rt.write_all(slice_up_to_len(out, named))?;
+        let end = played(&rt, path, &mut output, out);
+        rt.write_all(slice_up_to_len(out, end))?;
     }
+    Ok(())
 }
