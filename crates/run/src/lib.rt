@@ -79,7 +79,7 @@ fn play(
     first: &mut u8,
     place: &mut usize,
 ) -> End
-    ensures buf_after { record { first = first.exit.now; place = place.new; entries = result.entries; output = output_of result.mode buf.new }
+    ensures buf_after { record { first = first.new; place = place.new; entries = result.entries; output = output_of result.mode buf.new }
         ≡ played (mode_of mode) buf.old settings (decode calls.now text.now) }
     ensures answers_after { answers.new
         ≡ stored answers.old (run_or (start (mode_of mode) buf.old settings) (decode calls.now text.now)).answers }
