@@ -34,7 +34,8 @@ OWN = {
 def snake(word):
     if not re.match(r"[a-z]", word) or not re.search(r"[a-z0-9'][A-Z]", word):
         return word
-    return re.sub(r"(?<=[a-z0-9'])([A-Z]+)(?=[^a-z]|$)|(?<=[a-z0-9'])([A-Z])", lambda m: "_" + m.group(0).lower(), word)
+    word = re.sub(r"([A-Z])([A-Z][a-z])", r"\1_\2", word)
+    return re.sub(r"([a-z0-9'])([A-Z])", r"\1_\2", word).lower()
 
 
 def files(endings):
