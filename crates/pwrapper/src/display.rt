@@ -1,8 +1,8 @@
 // The length of the decimal text.
-ghost use Rattle.std.specs.Prelude.{◌≡◌, ◌<◌, length, pos};
+ghost use Rattle.std.specs.Prelude.{◌≡◌, ◌<◌, length};
 ghost use Rattle.pwrapper.specs.Number.{decimal, display_text};
 
-use crate::signed::{unsigned_abs_i8, unsigned_abs_i16, unsigned_abs_i32, unsigned_abs_i64};
+use crate::integer::PrimitiveInteger;
 
 // The minus before a number below zero.
 const MINUS_LEN: usize = 1;
@@ -54,74 +54,14 @@ fn number_of_digits_64(n: u64) -> usize
     number_of_digits_32(n)
 }
 
-// How long a u8 is in decimal.
-pub fn compute_display_len_u8(n: u8) -> usize
-    ensures { result ≡ length (display_text (pos n)) }
+// How long an integer is in decimal.
+pub fn compute_display_len<I: PrimitiveInteger>(x: I) -> usize
+    ensures { result ≡ length (display_text (I.value x)) }
 {
-    number_of_digits_8(n as u64)
-}
-
-// How long a u16 is in decimal.
-pub fn compute_display_len_u16(n: u16) -> usize
-    ensures { result ≡ length (display_text (pos n)) }
-{
-    number_of_digits_16(n as u64)
-}
-
-// How long a u32 is in decimal.
-pub fn compute_display_len_u32(n: u32) -> usize
-    ensures { result ≡ length (display_text (pos n)) }
-{
-    number_of_digits_32(n as u64)
-}
-
-// How long a u64 is in decimal.
-pub fn compute_display_len_u64(n: u64) -> usize
-    ensures { result ≡ length (display_text (pos n)) }
-{
-    number_of_digits_64(n)
-}
-
-// How long an i8 is in decimal.
-pub fn compute_display_len_i8(x: i8) -> usize
-    ensures { result ≡ length (display_text x) }
-{
-    let len = compute_display_len_u8(unsigned_abs_i8(x));
-    if x < 0 {
-        return len + MINUS_LEN;
+    let len = number_of_digits_64(x.absolute_value());
+    if x.is_negative() {
+        len + MINUS_LEN
+    } else {
+        len
     }
-    len
-}
-
-// How long an i16 is in decimal.
-pub fn compute_display_len_i16(x: i16) -> usize
-    ensures { result ≡ length (display_text x) }
-{
-    let len = compute_display_len_u16(unsigned_abs_i16(x));
-    if x < 0 {
-        return len + MINUS_LEN;
-    }
-    len
-}
-
-// How long an i32 is in decimal.
-pub fn compute_display_len_i32(x: i32) -> usize
-    ensures { result ≡ length (display_text x) }
-{
-    let len = compute_display_len_u32(unsigned_abs_i32(x));
-    if x < 0 {
-        return len + MINUS_LEN;
-    }
-    len
-}
-
-// How long an i64 is in decimal.
-pub fn compute_display_len_i64(x: i64) -> usize
-    ensures { result ≡ length (display_text x) }
-{
-    let len = compute_display_len_u64(unsigned_abs_i64(x));
-    if x < 0 {
-        return len + MINUS_LEN;
-    }
-    len
 }
