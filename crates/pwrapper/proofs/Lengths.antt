@@ -1,10 +1,13 @@
 -- The lengths of the texts of a number: thresholds of the decimal digits, the prefix.
-use Rattle.std.specs.Prelude.{◌≡◌, ℕ, ◌+◌, ◌/◌, ◌^◌, ◌<◌, ◌≤◌, Bool, true, false, ◌++◌, length}
+use Rattle.std.specs.Prelude.{◌≡◌, ℕ, ◌+◌, ◌/◌, ◌^◌, ◌<◌, ◌≤◌, Bool, true, false, cond, [], ◌∷◌, ◌++◌, length, ℤ, pos, negsuc, unsigned_abs}
+use Rattle.std.specs.Int.{is_negative}
+use mathlib.Core.Path.{refl}
+use borrow.Author.Tests.{le-ltb}
 use native.Mathlib.Nat.{le_trans, pow-le-pow_left}
 use native.Mathlib.Omega.{arith}
 use lib.Dec.{lit≤}
 use Rattle.pwrapper.specs.Digits.{digits, digit_text, dec_digit}
-use Rattle.pwrapper.specs.Number.{decimal, prefix}
+use Rattle.pwrapper.specs.Number.{decimal, display_text, prefix}
 use Rattle.pwrapper.proofs.Digits.{digits-short, text-length, text_pow, text-one}
 
 -- at most 64 digits in any base, of a number of 64 bits
@@ -33,3 +36,8 @@ prefixed f b n x t len b2 e h = record {
   bare = λ a. rw a (omega (arith, text-length b b2 f n));
   room = rw e (at-most-64 b b2 n h);
 }
+
+-- an integer's text, by its sign and its absolute value
+pub signed-text : (z : ℤ) → display_text z ≡ cond (is_negative z) (45 ∷ []) [] ++ decimal (unsigned_abs z)
+signed-text (pos n) = rw (le-ltb n 0 (omega arith)) refl
+signed-text (negsuc n) = refl

@@ -1,5 +1,5 @@
 // The length of the decimal text.
-ghost use Rattle.std.specs.Prelude.{◌≡◌, ◌<◌, length};
+ghost use Rattle.std.specs.Prelude.{◌≡◌, ◌<◌, cond, [], ◌∷◌, ◌++◌, length};
 ghost use Rattle.pwrapper.specs.Number.{decimal, display_text};
 
 use crate::integer::PrimitiveInteger;
@@ -54,14 +54,21 @@ fn number_of_digits_64(n: u64) -> usize
     number_of_digits_32(n)
 }
 
+// How long n is in decimal, with a minus before it where is_negative.
+pub fn decimal_len(is_negative: bool, n: u64) -> usize
+    ensures { result ≡ length (cond is_negative (45 ∷ []) [] ++ decimal n) }
+{
+    let digits = number_of_digits_64(n);
+    if is_negative {
+        digits + MINUS_LEN
+    } else {
+        digits
+    }
+}
+
 // How long an integer is in decimal.
 pub fn compute_display_len<I: PrimitiveInteger>(x: I) -> usize
     ensures { result ≡ length (display_text (I.value x)) }
 {
-    let len = number_of_digits_64(x.absolute_value());
-    if x.is_negative() {
-        len + MINUS_LEN
-    } else {
-        len
-    }
+    decimal_len(x.is_negative(), x.absolute_value())
 }

@@ -1,6 +1,5 @@
-use native.Mathlib.Omega.{arith}
-use Rattle.pwrapper.proofs.Lengths.{decimal-64}
+use Rattle.pwrapper.proofs.Lengths.{signed-text}
 use Rattle.pwrapper.proofs.display.compute_display_len.Goals as goal
 
-pub overflow_add-result : goal.overflow_add-result
-overflow_add-result g c = omega (arith, decimal-64 c.absolute_value.result (omega arith))
+pub returns : goal.returns
+returns g c = rw (c.is_negative.ensures, c.absolute_value.ensures, ← signed-text (g.I.PrimitiveInteger.value c.args.x)) at c.decimal_len.ensures
