@@ -1,5 +1,5 @@
--- The lengths of the texts of a number: thresholds of the decimal digits, the prefix.
-use Rattle.std.specs.Prelude.{◌≡◌, ℕ, ◌+◌, ◌/◌, ◌^◌, ◌<◌, ◌≤◌, Bool, true, false, cond, [], ◌∷◌, ◌++◌, length, ℤ, pos, negsuc, unsigned_abs}
+-- The lengths of the texts of a number: the decimal digits, the sign, the prefix.
+use Rattle.std.specs.Prelude.{◌≡◌, ℕ, ◌+◌, ◌^◌, ◌<◌, ◌≤◌, Bool, true, false, cond, [], ◌∷◌, ◌++◌, length, ℤ, pos, negsuc, unsigned_abs}
 use Rattle.std.specs.Int.{is_negative}
 use mathlib.Core.Path.{refl}
 use borrow.Author.Tests.{le-ltb}
@@ -8,7 +8,7 @@ use native.Mathlib.Omega.{arith}
 use lib.Dec.{lit≤}
 use Rattle.pwrapper.specs.Digits.{digits, digit_text, dec_digit}
 use Rattle.pwrapper.specs.Number.{decimal, display_text, prefix}
-use Rattle.pwrapper.proofs.Digits.{digits-short, text-length, text_pow, text-one}
+use Rattle.pwrapper.proofs.Digits.{digits-short, text-length, text-one}
 
 -- at most 64 digits in any base, of a number of 64 bits
 pub at-most-64 : (b : ℕ) → 2 ≤ b → (n : ℕ) → n < 2 ^ 64 → length (digits b n) ≤ 64
@@ -19,10 +19,6 @@ decimal-64 n h = rw (text-length 10 (lit≤ tt) dec_digit n) (at-most-64 10 (lit
 
 pub decimal-one : (n : ℕ) → n < 10 → length (decimal n) ≡ 1
 decimal-one = text-one 10 (lit≤ tt) dec_digit
-
--- a threshold's step: k digits more than the quotient has
-pub decimal-more : (k n r : ℕ) → 10 ^ k ≤ n → r ≡ length (decimal (n / 10 ^ k)) → r + k ≡ length (decimal n)
-decimal-more k n r h e = omega (arith, text_pow 10 (lit≤ tt) dec_digit k n h)
 
 -- len is the count of the digits: the text's length, by whether it has a prefix
 pub record Prefixed (f : ℕ → ℕ) (b n x : ℕ) (t : Bool) (len : ℕ) : Type 0 where

@@ -1,5 +1,5 @@
 // The length of the decimal text.
-ghost use Rattle.std.specs.Prelude.{◌≡◌, ◌<◌, cond, [], ◌∷◌, ◌++◌, length};
+ghost use Rattle.std.specs.Prelude.{◌≡◌, cond, [], ◌∷◌, ◌++◌, length};
 ghost use Rattle.pwrapper.specs.Number.{decimal, display_text};
 
 use crate::integer::PrimitiveInteger;
@@ -7,58 +7,21 @@ use crate::integer::PrimitiveInteger;
 // The minus before a number below zero.
 const MINUS_LEN: usize = 1;
 
-// The steps of number_of_digits, the last first: each divides by the power of ten that it tests.
-fn number_of_digits_2(n: u64) -> usize
-    requires { n < 100 }
+// How many decimal digits n has.
+fn number_of_digits(n: u64) -> usize
     ensures { result ≡ length (decimal n) }
 {
-    if n >= 10 { 2 } else { 1 }
-}
-
-fn number_of_digits_8(n: u64) -> usize
-    requires { n < 10000 }
-    ensures { result ≡ length (decimal n) }
-{
-    if n >= 100 {
-        return number_of_digits_2(n / 100) + 2;
+    match n.checked_ilog10() {
+        Some(exponent) => exponent as usize + 1,
+        None => 1,
     }
-    number_of_digits_2(n)
-}
-
-fn number_of_digits_16(n: u64) -> usize
-    requires { n < 100000000 }
-    ensures { result ≡ length (decimal n) }
-{
-    if n >= 1_0000 {
-        return number_of_digits_8(n / 1_0000) + 4;
-    }
-    number_of_digits_8(n)
-}
-
-fn number_of_digits_32(n: u64) -> usize
-    requires { n < 1000000000000 }
-    ensures { result ≡ length (decimal n) }
-{
-    if n >= 1_0000_0000 {
-        return number_of_digits_8(n / 1_0000_0000) + 8;
-    }
-    number_of_digits_16(n)
-}
-
-fn number_of_digits_64(n: u64) -> usize
-    ensures { result ≡ length (decimal n) }
-{
-    if n >= 1_0000_0000_0000 {
-        return number_of_digits_32(n / 1_0000_0000_0000) + 12;
-    }
-    number_of_digits_32(n)
 }
 
 // How long n is in decimal, with a minus before it where is_negative.
 pub fn decimal_len(is_negative: bool, n: u64) -> usize
     ensures { result ≡ length (cond is_negative (45 ∷ []) [] ++ decimal n) }
 {
-    let digits = number_of_digits_64(n);
+    let digits = number_of_digits(n);
     if is_negative {
         digits + MINUS_LEN
     } else {
