@@ -3,7 +3,7 @@
 // stack.
 #![tactic(auto)]
 
-ghost use Rattle.std.specs.Prelude.{◌≡◌, List, [], ℕ, pos};
+ghost use Rattle.std.specs.Prelude.{◌≡◌, List, [], ℕ};
 ghost use Rattle.calls.specs.declared.Kind.TheVariants.{Struct, Tuple, Set};
 ghost use Rattle.calls.specs.declared.Kind.TheVariants as kind;
 ghost use Rattle.calls.specs.Call.{opens, place, field, item, entry, value, finish, sub, endsub};
@@ -16,7 +16,7 @@ use calls::{Kind, Settings};
 use formatter::{Head, Op, call};
 use formatting::FormattingFlags;
 use utils::Range;
-use value_writes::{Form, Integer, PVariant, Width};
+use value_writes::{Form, IntegerValue, PVariant};
 use writer_backend::{PlaceKind, WriterBackend, past};
 
 #[derive(Clone, Copy)]
@@ -254,179 +254,20 @@ impl Formatter {
         self.call(buf, Op::Value(PVariant::Repeated(c, n)), b"")
     }
 
-    // Writes or counts a u8 in decimal.
-    pub fn write_u8_display(self, buf: &mut [u8], x: u8) -> FormatterStep
-        ensures { view_f_out result buf.new ≡ step (view_f self buf.old) (value (integer display 8 (pos x))) }
+    // Writes or counts an integer in decimal.
+    pub fn write_display<I: IntegerValue>(self, buf: &mut [u8], x: I) -> FormatterStep
+        ensures { view_f_out result buf.new
+            ≡ step (view_f self buf.old) (value (integer display I.BITS (I.value x))) }
     {
-        self.call(
-            buf,
-            Op::Value(PVariant::Int(Form::Display, Integer::Unsigned(Width::W8, x as u64))),
-            b"",
-        )
+        let n = x.to_integer();
+        self.call(buf, Op::Value(PVariant::Int(Form::Display, n)), b"")
     }
 
-    // Writes or counts a u8 in the form that the flags say.
-    pub fn write_u8_debug(self, buf: &mut [u8], x: u8) -> FormatterStep
-        ensures { view_f_out result buf.new ≡ step (view_f self buf.old) (value (integer debug 8 (pos x))) }
+    // Writes or counts an integer in the form that the flags say.
+    pub fn write_debug<I: IntegerValue>(self, buf: &mut [u8], x: I) -> FormatterStep
+        ensures { view_f_out result buf.new ≡ step (view_f self buf.old) (value (integer debug I.BITS (I.value x))) }
     {
-        self.call(
-            buf,
-            Op::Value(PVariant::Int(Form::Debug, Integer::Unsigned(Width::W8, x as u64))),
-            b"",
-        )
-    }
-
-    // Writes or counts a u16 in decimal.
-    pub fn write_u16_display(self, buf: &mut [u8], x: u16) -> FormatterStep
-        ensures { view_f_out result buf.new ≡ step (view_f self buf.old) (value (integer display 16 (pos x))) }
-    {
-        self.call(
-            buf,
-            Op::Value(PVariant::Int(Form::Display, Integer::Unsigned(Width::W16, x as u64))),
-            b"",
-        )
-    }
-
-    // Writes or counts a u16 in the form that the flags say.
-    pub fn write_u16_debug(self, buf: &mut [u8], x: u16) -> FormatterStep
-        ensures { view_f_out result buf.new ≡ step (view_f self buf.old) (value (integer debug 16 (pos x))) }
-    {
-        self.call(
-            buf,
-            Op::Value(PVariant::Int(Form::Debug, Integer::Unsigned(Width::W16, x as u64))),
-            b"",
-        )
-    }
-
-    // Writes or counts a u32 in decimal.
-    pub fn write_u32_display(self, buf: &mut [u8], x: u32) -> FormatterStep
-        ensures { view_f_out result buf.new ≡ step (view_f self buf.old) (value (integer display 32 (pos x))) }
-    {
-        self.call(
-            buf,
-            Op::Value(PVariant::Int(Form::Display, Integer::Unsigned(Width::W32, x as u64))),
-            b"",
-        )
-    }
-
-    // Writes or counts a u32 in the form that the flags say.
-    pub fn write_u32_debug(self, buf: &mut [u8], x: u32) -> FormatterStep
-        ensures { view_f_out result buf.new ≡ step (view_f self buf.old) (value (integer debug 32 (pos x))) }
-    {
-        self.call(
-            buf,
-            Op::Value(PVariant::Int(Form::Debug, Integer::Unsigned(Width::W32, x as u64))),
-            b"",
-        )
-    }
-
-    // Writes or counts a u64 in decimal.
-    pub fn write_u64_display(self, buf: &mut [u8], x: u64) -> FormatterStep
-        ensures { view_f_out result buf.new ≡ step (view_f self buf.old) (value (integer display 64 (pos x))) }
-    {
-        self.call(
-            buf,
-            Op::Value(PVariant::Int(Form::Display, Integer::Unsigned(Width::W64, x))),
-            b"",
-        )
-    }
-
-    // Writes or counts a u64 in the form that the flags say.
-    pub fn write_u64_debug(self, buf: &mut [u8], x: u64) -> FormatterStep
-        ensures { view_f_out result buf.new ≡ step (view_f self buf.old) (value (integer debug 64 (pos x))) }
-    {
-        self.call(
-            buf,
-            Op::Value(PVariant::Int(Form::Debug, Integer::Unsigned(Width::W64, x))),
-            b"",
-        )
-    }
-
-    // Writes or counts an i8 in decimal.
-    pub fn write_i8_display(self, buf: &mut [u8], x: i8) -> FormatterStep
-        ensures { view_f_out result buf.new ≡ step (view_f self buf.old) (value (integer display 8 x)) }
-    {
-        self.call(
-            buf,
-            Op::Value(PVariant::Int(Form::Display, Integer::Signed(Width::W8, x as i64))),
-            b"",
-        )
-    }
-
-    // Writes or counts an i8 in the form that the flags say.
-    pub fn write_i8_debug(self, buf: &mut [u8], x: i8) -> FormatterStep
-        ensures { view_f_out result buf.new ≡ step (view_f self buf.old) (value (integer debug 8 x)) }
-    {
-        self.call(
-            buf,
-            Op::Value(PVariant::Int(Form::Debug, Integer::Signed(Width::W8, x as i64))),
-            b"",
-        )
-    }
-
-    // Writes or counts an i16 in decimal.
-    pub fn write_i16_display(self, buf: &mut [u8], x: i16) -> FormatterStep
-        ensures { view_f_out result buf.new ≡ step (view_f self buf.old) (value (integer display 16 x)) }
-    {
-        self.call(
-            buf,
-            Op::Value(PVariant::Int(Form::Display, Integer::Signed(Width::W16, x as i64))),
-            b"",
-        )
-    }
-
-    // Writes or counts an i16 in the form that the flags say.
-    pub fn write_i16_debug(self, buf: &mut [u8], x: i16) -> FormatterStep
-        ensures { view_f_out result buf.new ≡ step (view_f self buf.old) (value (integer debug 16 x)) }
-    {
-        self.call(
-            buf,
-            Op::Value(PVariant::Int(Form::Debug, Integer::Signed(Width::W16, x as i64))),
-            b"",
-        )
-    }
-
-    // Writes or counts an i32 in decimal.
-    pub fn write_i32_display(self, buf: &mut [u8], x: i32) -> FormatterStep
-        ensures { view_f_out result buf.new ≡ step (view_f self buf.old) (value (integer display 32 x)) }
-    {
-        self.call(
-            buf,
-            Op::Value(PVariant::Int(Form::Display, Integer::Signed(Width::W32, x as i64))),
-            b"",
-        )
-    }
-
-    // Writes or counts an i32 in the form that the flags say.
-    pub fn write_i32_debug(self, buf: &mut [u8], x: i32) -> FormatterStep
-        ensures { view_f_out result buf.new ≡ step (view_f self buf.old) (value (integer debug 32 x)) }
-    {
-        self.call(
-            buf,
-            Op::Value(PVariant::Int(Form::Debug, Integer::Signed(Width::W32, x as i64))),
-            b"",
-        )
-    }
-
-    // Writes or counts an i64 in decimal.
-    pub fn write_i64_display(self, buf: &mut [u8], x: i64) -> FormatterStep
-        ensures { view_f_out result buf.new ≡ step (view_f self buf.old) (value (integer display 64 x)) }
-    {
-        self.call(
-            buf,
-            Op::Value(PVariant::Int(Form::Display, Integer::Signed(Width::W64, x))),
-            b"",
-        )
-    }
-
-    // Writes or counts an i64 in the form that the flags say.
-    pub fn write_i64_debug(self, buf: &mut [u8], x: i64) -> FormatterStep
-        ensures { view_f_out result buf.new ≡ step (view_f self buf.old) (value (integer debug 64 x)) }
-    {
-        self.call(
-            buf,
-            Op::Value(PVariant::Int(Form::Debug, Integer::Signed(Width::W64, x))),
-            b"",
-        )
+        let n = x.to_integer();
+        self.call(buf, Op::Value(PVariant::Int(Form::Debug, n)), b"")
     }
 }

@@ -4,120 +4,61 @@ use crate::texts::other;
 use fields::{Number, number, same};
 use formatter_by_value::{Formatter, FormatterStep};
 use lines::part;
+use std::num::TryFromIntError;
 use utils::slice_up_to_len;
+use value_writes::{Form, IntegerValue};
 
-// A value n, or -1 - n where it is below zero, or a field of another form.
-#[derive(Clone, Copy)]
-pub enum Value {
-    Is(bool, u64),
-    Other,
+// A value in a form, if its type has it.
+fn written<I: IntegerValue>(
+    fmt: Formatter,
+    buf: &mut [u8],
+    form: Form,
+    value: Result<I, TryFromIntError>,
+) -> FormatterStep {
+    let Ok(x) = value else {
+        return other(fmt);
+    };
+    match form {
+        Form::Display => fmt.write_display(buf, x),
+        Form::Debug => fmt.write_debug(buf, x),
+    }
 }
 
-// A number as a value that is not below zero.
-fn not_negative(n: Number) -> Value {
-    match n {
-        Number::Is(n) => Value::Is(false, n),
-        Number::Other => Value::Other,
+// n as a value of the unsigned type at place t.
+fn unsigned(fmt: Formatter, buf: &mut [u8], form: Form, t: usize, n: u64) -> FormatterStep {
+    match t {
+        0 => written(fmt, buf, form, u8::try_from(n)),
+        1 => written(fmt, buf, form, u16::try_from(n)),
+        2 => written(fmt, buf, form, u32::try_from(n)),
+        _ => written(fmt, buf, form, Ok(n)),
     }
 }
 
-// The value that a field is in decimal, if the type at place t has it.
-fn value_of(t: usize, s: &[u8]) -> Value {
-    let greatest = [255, 65535, 4294967295, u64::MAX];
-    let most = greatest[t % 4];
-    if t < 4 {
-        return not_negative(number(s, most));
+// x as a value of the signed type at place t.
+fn signed(fmt: Formatter, buf: &mut [u8], form: Form, t: usize, x: i64) -> FormatterStep {
+    match t {
+        4 => written(fmt, buf, form, i8::try_from(x)),
+        5 => written(fmt, buf, form, i16::try_from(x)),
+        6 => written(fmt, buf, form, i32::try_from(x)),
+        _ => written(fmt, buf, form, Ok(x)),
     }
-    if same(slice_up_to_len(s, 1), b"-") {
-        let Number::Is(n) = number(part(s, 1, s.len()), most - most / 2) else {
-            return Value::Other;
-        };
-        if n == 0 {
-            return Value::Other;
-        }
-        return Value::Is(true, n - 1);
-    }
-    not_negative(number(s, most / 2))
 }
 
-// The value as one of its type. The type has it: each remainder is n.
-fn i8_of(is_negative: bool, n: u64) -> i8 {
-    let x = (n % 128) as i8;
-    if is_negative { !x } else { x }
+// The negative number whose absolute value a field is in decimal.
+fn negative(fmt: Formatter, buf: &mut [u8], form: Form, t: usize, s: &[u8]) -> FormatterStep {
+    let Number::Is(n) = number(s, u64::MAX) else {
+        return other(fmt);
+    };
+    if n == 0 {
+        return other(fmt);
+    }
+    let Ok(x) = i64::try_from(n - 1) else {
+        return other(fmt);
+    };
+    signed(fmt, buf, form, t, !x)
 }
 
-fn i16_of(is_negative: bool, n: u64) -> i16 {
-    let x = (n % 32768) as i16;
-    if is_negative { !x } else { x }
-}
-
-fn i32_of(is_negative: bool, n: u64) -> i32 {
-    let x = (n % 2147483648) as i32;
-    if is_negative { !x } else { x }
-}
-
-fn i64_of(is_negative: bool, n: u64) -> i64 {
-    let x = (n % 9223372036854775808) as i64;
-    if is_negative { !x } else { x }
-}
-
-// The display form of an unsigned type, which has n: each remainder is n.
-fn unsigned_display(fmt: Formatter, buf: &mut [u8], t: usize, n: u64) -> FormatterStep {
-    if t == 0 {
-        return fmt.write_u8_display(buf, (n % 256) as u8);
-    }
-    if t == 1 {
-        return fmt.write_u16_display(buf, (n % 65536) as u16);
-    }
-    if t == 2 {
-        return fmt.write_u32_display(buf, (n % 4294967296) as u32);
-    }
-    fmt.write_u64_display(buf, n)
-}
-
-// The debug form of an unsigned type, which has n: each remainder is n.
-fn unsigned_debug(fmt: Formatter, buf: &mut [u8], t: usize, n: u64) -> FormatterStep {
-    if t == 0 {
-        return fmt.write_u8_debug(buf, (n % 256) as u8);
-    }
-    if t == 1 {
-        return fmt.write_u16_debug(buf, (n % 65536) as u16);
-    }
-    if t == 2 {
-        return fmt.write_u32_debug(buf, (n % 4294967296) as u32);
-    }
-    fmt.write_u64_debug(buf, n)
-}
-
-// The display form of a signed type.
-fn signed_display(fmt: Formatter, buf: &mut [u8], t: usize, minus: bool, n: u64) -> FormatterStep {
-    if t == 4 {
-        return fmt.write_i8_display(buf, i8_of(minus, n));
-    }
-    if t == 5 {
-        return fmt.write_i16_display(buf, i16_of(minus, n));
-    }
-    if t == 6 {
-        return fmt.write_i32_display(buf, i32_of(minus, n));
-    }
-    fmt.write_i64_display(buf, i64_of(minus, n))
-}
-
-// The debug form of a signed type.
-fn signed_debug(fmt: Formatter, buf: &mut [u8], t: usize, minus: bool, n: u64) -> FormatterStep {
-    if t == 4 {
-        return fmt.write_i8_debug(buf, i8_of(minus, n));
-    }
-    if t == 5 {
-        return fmt.write_i16_debug(buf, i16_of(minus, n));
-    }
-    if t == 6 {
-        return fmt.write_i32_debug(buf, i32_of(minus, n));
-    }
-    fmt.write_i64_debug(buf, i64_of(minus, n))
-}
-
-// `VALUE`.
+// `VALUE`, a value of its type.
 pub(crate) fn integer_call(
     fmt: Formatter,
     buf: &mut [u8],
@@ -125,18 +66,22 @@ pub(crate) fn integer_call(
     arguments: &[u8],
 ) -> FormatterStep {
     let t = k / 2;
-    let Value::Is(minus, n) = value_of(t, arguments) else {
+    let form = if k % 2 == 1 {
+        Form::Debug
+    } else {
+        Form::Display
+    };
+    if 4 <= t && same(slice_up_to_len(arguments, 1), b"-") {
+        return negative(fmt, buf, form, t, part(arguments, 1, arguments.len()));
+    }
+    let Number::Is(n) = number(arguments, u64::MAX) else {
         return other(fmt);
     };
-    let is_debug = k % 2 == 1;
     if t < 4 {
-        if is_debug {
-            return unsigned_debug(fmt, buf, t, n);
-        }
-        return unsigned_display(fmt, buf, t, n);
+        return unsigned(fmt, buf, form, t, n);
     }
-    if is_debug {
-        return signed_debug(fmt, buf, t, minus, n);
-    }
-    signed_display(fmt, buf, t, minus, n)
+    let Ok(x) = i64::try_from(n) else {
+        return other(fmt);
+    };
+    signed(fmt, buf, form, t, x)
 }

@@ -1,21 +1,16 @@
 -- Integers: a prefix with digits after it at the cursor, and an integer by its sign, its absolute value and its two's complement.
-use mathlib.Core.Bool.{Bool, true, false, cond}
-use mathlib.Core.Path.{◌≡◌, refl, sym, ap, ◌∙◌}
-use mathlib.Core.List.{List, [], ◌∷◌, ◌++◌}
+use mathlib.Core.Bool.{true}
+use mathlib.Core.Path.{◌≡◌, refl}
+use mathlib.Core.List.{List, ◌++◌}
 use Prim.Native.Nat.{ℕ, ◌+◌, ◌-◌, ◌≤◌}
 use native.Mathlib.Omega.{arith}
-use lib.IntN.{ℤ, pos, nat_abs}
+use lib.IntN.{ℤ}
 use lib.ListN.{length, length-append}
-use lib.Signed.{lt_z}
-use mir.Syntax.{Width}
-use mir.Val.{SFits, of_z, to_z}
-use mir.ValLaws.{to_z-of_z}
 use Rattle.error.specs.declared.Answer.{Answer}
 use Rattle.error.specs.declared.Answer.TheVariants.{Done}
 use Rattle.error.specs.Answer.{is_done}
 use Rattle.formatting.specs.declared.flags.FormattingFlags.{FormattingFlags}
-use Rattle.pwrapper.specs.Number.{decimal, display_text, debug_text}
-use Rattle.pwrapper.proofs.Sign.{below, from}
+use Rattle.pwrapper.specs.Number.{display_text, debug_text}
 use Rattle.str_writer.specs.Value.{Form, display, debug, integer, text_of, input_fault, cut_fault}
 use Rattle.str_writer.specs.Write.{outcome, splice, put, write}
 use Rattle.str_writer.proofs.Splice.{splice-splice, length-splice}
@@ -56,14 +51,3 @@ module _ (f : FormattingFlags) (b : List ℕ) (at k : ℕ) (z : ℤ) where
   pub debug-put : {t : List ℕ} → debug_text f k z ≡ t → put b at t ≡ write f b at (integer debug k z)
   unfolding text_of
   debug-put e = rw (← e) (write-integer debug)
-
--- an integer's text, by its sign and its absolute value
-pub signed-text : (w : Width) (z : ℤ) → SFits w z → (n : ℕ) → n ≡ nat_abs (to_z w (of_z w z)) → display_text z ≡ cond (lt_z (to_z w (of_z w z)) (pos 0)) (45 ∷ []) [] ++ decimal n
-signed-text w z f n e = by_sign (lt_z (to_z w (of_z w z)) (pos 0)) refl
-  where
-    size : nat_abs z ≡ n
-    size = ap nat_abs (sym (to_z-of_z w z f)) ∙ sym e
-
-    by_sign : (t : Bool) → lt_z (to_z w (of_z w z)) (pos 0) ≡ t → display_text z ≡ cond t (45 ∷ []) [] ++ decimal n
-    by_sign true t = rw ((below w z f t).text, size)
-    by_sign false t = rw ((from w z f t).text, size)

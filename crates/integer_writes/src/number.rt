@@ -2,166 +2,139 @@
 // are laid backwards straight into the buffer.
 ghost use Rattle.std.specs.Prelude.{◌≡◌, cond, [], ◌∷◌, ◌++◌, ℕ, ◌+◌, ◌-◌, ◌≤◌, ℤ, length};
 ghost use Rattle.formatting.specs.Hex.{hex_digit};
-ghost use Rattle.pwrapper.specs.Digits.{digit_text, dec_digit};
+ghost use Rattle.pwrapper.specs.Digits.{digit_text};
 ghost use Rattle.pwrapper.specs.Number.{decimal, display_text, twos_complement, prefix, hex_text, bin_text, debug_parts};
+ghost use Rattle.integer_writes.specs.Mark.{mark_text};
 ghost use Rattle.str_writer.specs.Value.{integer, debug};
 ghost use Rattle.str_writer.specs.Write.{outcome, splice, write};
 ghost use Rattle.str_writer.specs.Write.{put as put_text};
 
 use error::Answer;
 use formatting::{FormattingFlags, HexFormatting, NumberFormatting, hex_as_ascii};
-use pwrapper::{binary_len_u64, compute_display_len_u64, hexadecimal_len_u64};
+use pwrapper::{binary_len, decimal_len, hexadecimal_len};
 use str_writer::{Written, cursor_fault, room_fault};
 
-// Lays the decimal digits of n, the last right before end.
-fn lay_decimal(buf: &mut [u8], end: usize, n: u64)
-    requires { (length (decimal n) ≤ end) × (end ≤ length buf.old) }
-    ensures { buf.new ≡ splice buf.old (end - length (decimal n)) (decimal n) }
-{
-    let mut at = end;
-    let mut rest = n;
-    loop {
-        at -= 1;
-        buf[at] = b'0' + (rest % 10) as u8;
-        rest /= 10;
-        if rest == 0 {
-            return;
-        }
-    }
+// What stands before the digits of a number.
+#[derive(Clone, Copy)]
+enum Mark {
+    Nothing,
+    Minus,
+    // `0` and this letter.
+    Prefix(u8),
 }
 
-// Lays the hexadecimal digits of n, the last right before end.
-fn lay_hexadecimal(buf: &mut [u8], end: usize, n: u64, hex_fmt: HexFormatting)
-    requires { (length (digit_text (hex_digit hex_fmt) 16 n) ≤ end) × (end ≤ length buf.old) }
-    ensures { buf.new ≡ splice buf.old (end - length (digit_text (hex_digit hex_fmt) 16 n)) (digit_text (hex_digit hex_fmt) 16 n) }
-{
-    let mut at = end;
-    let mut rest = n;
-    loop {
-        at -= 1;
-        buf[at] = hex_as_ascii((rest % 16) as u8, hex_fmt);
-        rest /= 16;
-        if rest == 0 {
-            return;
-        }
-    }
-}
-
-// Lays the binary digits of n, the last right before end.
-fn lay_binary(buf: &mut [u8], end: usize, n: u64)
-    requires { (length (digit_text dec_digit 2 n) ≤ end) × (end ≤ length buf.old) }
-    ensures { buf.new ≡ splice buf.old (end - length (digit_text dec_digit 2 n)) (digit_text dec_digit 2 n) }
-{
-    let mut at = end;
-    let mut rest = n;
-    loop {
-        at -= 1;
-        buf[at] = b'0' + (rest % 2) as u8;
-        rest /= 2;
-        if rest == 0 {
-            return;
-        }
-    }
-}
-
-// Stores the minus of a negative number.
-fn put_minus(buf: &mut [u8], at: usize, is_negative: bool)
-    requires { at + length {A = ℕ} (cond is_negative (45 ∷ []) []) ≤ length buf.old }
-    ensures { buf.new ≡ splice buf.old at (cond is_negative (45 ∷ []) []) }
+// The minus of a negative number.
+fn minus_of(is_negative: bool) -> Mark
+    ensures { mark_text result ≡ cond is_negative (45 ∷ []) [] }
 {
     if is_negative {
-        buf[at] = b'-';
+        Mark::Minus
+    } else {
+        Mark::Nothing
     }
 }
 
-// Stores the prefix of an alternate form, `0x` or `0b` by the letter.
-fn put_prefix(buf: &mut [u8], at: usize, is_alternate: bool, letter: u8)
-    requires { at + length (prefix is_alternate letter) ≤ length buf.old }
-    ensures { buf.new ≡ splice buf.old at (prefix is_alternate letter) }
+// The prefix of an alternate form, with its letter.
+fn prefix_of(flags: FormattingFlags, letter: u8) -> Mark
+    ensures { mark_text result ≡ prefix flags.is_alternate letter }
 {
-    if is_alternate {
-        buf[at] = b'0';
-        buf[at + 1] = letter;
+    if flags.is_alternate {
+        Mark::Prefix(letter)
+    } else {
+        Mark::Nothing
     }
 }
 
-// The length of n in decimal, with a minus before it where is_negative.
-pub fn decimal_len(is_negative: bool, n: u64) -> usize
-    ensures { result ≡ length (cond is_negative (45 ∷ []) [] ++ decimal n) }
+// Stores a mark.
+fn put_mark(buf: &mut [u8], at: usize, mark: Mark)
+    requires { at + length (mark_text mark) ≤ length buf.old }
+    ensures { buf.new ≡ splice buf.old at (mark_text mark) }
 {
-    let digits = compute_display_len_u64(n);
-    if is_negative { digits + 1 } else { digits }
+    match mark {
+        Mark::Nothing => {}
+        Mark::Minus => buf[at] = b'-',
+        Mark::Prefix(letter) => {
+            buf[at] = b'0';
+            buf[at + 1] = letter;
+        }
+    }
+}
+
+// Lays the digits of n in a base, the last right before end.
+fn lay_digits<const BASE: u64>(buf: &mut [u8], end: usize, n: u64, hex_fmt: HexFormatting)
+    requires base { (2 ≤ BASE) × (BASE ≤ 16) }
+    requires room { (length (digit_text (hex_digit hex_fmt) BASE n) ≤ end) × (end ≤ length buf.old) }
+    ensures { buf.new ≡ splice buf.old (end - length (digit_text (hex_digit hex_fmt) BASE n)) (digit_text (hex_digit hex_fmt) BASE n) }
+{
+    let mut at = end;
+    let mut rest = n;
+    loop {
+        at -= 1;
+        buf[at] = hex_as_ascii((rest % BASE) as u8, hex_fmt);
+        rest /= BASE;
+        if rest == 0 {
+            return;
+        }
+    }
+}
+
+// Writes a mark and the digits of n in a base, together len bytes.
+fn write_digits<const BASE: u64>(
+    buf: &mut [u8],
+    at: usize,
+    mark: Mark,
+    n: u64,
+    hex_fmt: HexFormatting,
+    len: usize,
+) -> Written
+    requires base { (2 ≤ BASE) × (BASE ≤ 16) }
+    requires whole { len ≡ length (mark_text mark ++ digit_text (hex_digit hex_fmt) BASE n) }
+    ensures { outcome result buf.new ≡ put_text buf.old at (mark_text mark ++ digit_text (hex_digit hex_fmt) BASE n) }
+{
+    let fault = cursor_fault(buf.len(), at);
+    if !fault.is_done() {
+        return Written { at, answer: fault };
+    }
+    let short = room_fault(buf.len() - at, len);
+    if !short.is_done() {
+        return Written { at, answer: short };
+    }
+    let end = at + len;
+    put_mark(buf, at, mark);
+    lay_digits::<BASE>(buf, end, n, hex_fmt);
+    Written {
+        at: end,
+        answer: Answer::Done,
+    }
 }
 
 // Writes n in decimal, with a minus before it where is_negative.
 pub fn write_decimal(buf: &mut [u8], at: usize, is_negative: bool, n: u64) -> Written
     ensures { outcome result buf.new ≡ put_text buf.old at (cond is_negative (45 ∷ []) [] ++ decimal n) }
 {
-    let fault = cursor_fault(buf.len(), at);
-    if !fault.is_done() {
-        return Written { at, answer: fault };
-    }
     let len = decimal_len(is_negative, n);
-    let short = room_fault(buf.len() - at, len);
-    if !short.is_done() {
-        return Written { at, answer: short };
-    }
-    let end = at + len;
-    put_minus(buf, at, is_negative);
-    lay_decimal(buf, end, n);
-    Written {
-        at: end,
-        answer: Answer::Done,
-    }
+    // The digits below ten are the same in upper and lower case.
+    write_digits::<10>(buf, at, minus_of(is_negative), n, HexFormatting::Upper, len)
 }
 
 // Writes n in hexadecimal.
 fn write_hexadecimal(buf: &mut [u8], at: usize, n: u64, flags: FormattingFlags) -> Written
     ensures { outcome result buf.new ≡ put_text buf.old at (hex_text flags n) }
 {
-    let fault = cursor_fault(buf.len(), at);
-    if !fault.is_done() {
-        return Written { at, answer: fault };
-    }
-    let hex_len = hexadecimal_len_u64(n, flags);
-    let short = room_fault(buf.len() - at, hex_len);
-    if !short.is_done() {
-        return Written { at, answer: short };
-    }
-    let end = at + hex_len;
-    let hex_fmt = flags.hex_fmt;
-    put_prefix(buf, at, flags.is_alternate, b'x');
-    lay_hexadecimal(buf, end, n, hex_fmt);
-    Written {
-        at: end,
-        answer: Answer::Done,
-    }
+    let len = hexadecimal_len(n, flags);
+    write_digits::<16>(buf, at, prefix_of(flags, b'x'), n, flags.hex_fmt, len)
 }
 
 // Writes n in binary.
 fn write_binary(buf: &mut [u8], at: usize, n: u64, flags: FormattingFlags) -> Written
     ensures { outcome result buf.new ≡ put_text buf.old at (bin_text flags n) }
 {
-    let fault = cursor_fault(buf.len(), at);
-    if !fault.is_done() {
-        return Written { at, answer: fault };
-    }
-    let bin_len = binary_len_u64(n, flags);
-    let short = room_fault(buf.len() - at, bin_len);
-    if !short.is_done() {
-        return Written { at, answer: short };
-    }
-    let end = at + bin_len;
-    put_prefix(buf, at, flags.is_alternate, b'b');
-    lay_binary(buf, end, n);
-    Written {
-        at: end,
-        answer: Answer::Done,
-    }
+    let len = binary_len(n, flags);
+    write_digits::<2>(buf, at, prefix_of(flags, b'b'), n, flags.hex_fmt, len)
 }
 
 // Writes an integer by the flags: n is its absolute value, and bits its two's complement.
-pub fn write_debug(
+pub fn write_debug_parts(
     buf: &mut [u8],
     at: usize,
     is_negative: bool,
@@ -170,11 +143,10 @@ pub fn write_debug(
     flags: FormattingFlags,
 ) -> Written
     ensures buf_after { outcome result buf.new ≡ put_text buf.old at (debug_parts flags.num_fmt flags is_negative n bits) }
-    ensures by_index { (k : ℕ) (z : ℤ) → display_text z ≡ cond is_negative (45 ∷ []) [] ++ decimal n → twos_complement k z
+    ensures as_value { (k : ℕ) (z : ℤ) → display_text z ≡ cond is_negative (45 ∷ []) [] ++ decimal n → twos_complement k z
         ≡ bits → outcome result buf.new ≡ write flags buf.old at (integer debug k z) }
 {
-    let num_fmt = flags.num_fmt;
-    match num_fmt {
+    match flags.num_fmt {
         NumberFormatting::Decimal => write_decimal(buf, at, is_negative, n),
         NumberFormatting::Hexadecimal => write_hexadecimal(buf, at, bits, flags),
         NumberFormatting::Binary => write_binary(buf, at, bits, flags),

@@ -3,20 +3,9 @@ use crate::{put_bytes, put_template};
 use fields::{Number, first_field, later_fields, number, place_of};
 use formatting::FormattingFlags;
 use lines::part;
-use pargument::Integer;
-
-// An integer of one of the eight types.
-#[derive(Clone, Copy)]
-enum Value {
-    U8(u8),
-    U16(u16),
-    U32(u32),
-    U64(u64),
-    I8(i8),
-    I16(i16),
-    I32(i32),
-    I64(i64),
-}
+use pargument::{Integer, to_integer};
+use pwrapper::{PrimitiveInteger, compute_debug_len, compute_display_len};
+use std::num::TryFromIntError;
 
 // A number in decimal, or a field of another form.
 #[derive(Clone, Copy)]
@@ -24,97 +13,6 @@ enum Signed {
     Plus(u64),
     Minus(u64),
     Other,
-}
-
-// The greatest number of a type, by its place in put_integer.
-fn greatest(kind: usize) -> u64 {
-    match kind {
-        0 => 255,
-        1 => 65535,
-        2 => 4294967295,
-        3 => 18446744073709551615,
-        4 => 127,
-        5 => 32767,
-        6 => 2147483647,
-        _ => 9223372036854775807,
-    }
-}
-
-// n, at most the greatest number of an unsigned type, as a value of it.
-fn unsigned(kind: usize, n: u64) -> Value {
-    if kind == 0 {
-        return Value::U8((n % 256) as u8);
-    }
-    if kind == 1 {
-        return Value::U16((n % 65536) as u16);
-    }
-    if kind == 2 {
-        return Value::U32((n % 4294967296) as u32);
-    }
-    Value::U64(n)
-}
-
-// n, at most the greatest number of a type, as a value of it; !n where that is to be negative.
-fn to_value(kind: usize, is_negative: bool, n: u64) -> Value {
-    if kind < 4 {
-        return unsigned(kind, n);
-    }
-    if kind == 4 {
-        let x = (n % 128) as i8;
-        return Value::I8(if is_negative { !x } else { x });
-    }
-    if kind == 5 {
-        let x = (n % 32768) as i16;
-        return Value::I16(if is_negative { !x } else { x });
-    }
-    if kind == 6 {
-        let x = (n % 2147483648) as i32;
-        return Value::I32(if is_negative { !x } else { x });
-    }
-    let x = (n % 9223372036854775808) as i64;
-    Value::I64(if is_negative { !x } else { x })
-}
-
-// The sign, the absolute value and the width of a value.
-fn to_integer(v: Value) -> Integer {
-    match v {
-        Value::U8(x) => pargument::to_integer_u8(x),
-        Value::U16(x) => pargument::to_integer_u16(x),
-        Value::U32(x) => pargument::to_integer_u32(x),
-        Value::U64(x) => pargument::to_integer_u64(x),
-        Value::I8(x) => pargument::to_integer_i8(x),
-        Value::I16(x) => pargument::to_integer_i16(x),
-        Value::I32(x) => pargument::to_integer_i32(x),
-        Value::I64(x) => pargument::to_integer_i64(x),
-    }
-}
-
-// The length of the display form.
-fn display_len(v: Value) -> usize {
-    match v {
-        Value::U8(x) => pwrapper::compute_display_len_u8(x),
-        Value::U16(x) => pwrapper::compute_display_len_u16(x),
-        Value::U32(x) => pwrapper::compute_display_len_u32(x),
-        Value::U64(x) => pwrapper::compute_display_len_u64(x),
-        Value::I8(x) => pwrapper::compute_display_len_i8(x),
-        Value::I16(x) => pwrapper::compute_display_len_i16(x),
-        Value::I32(x) => pwrapper::compute_display_len_i32(x),
-        Value::I64(x) => pwrapper::compute_display_len_i64(x),
-    }
-}
-
-// The length of the debug form.
-fn debug_len(v: Value, flags: FormattingFlags) -> usize {
-    match v {
-        Value::U8(x) => pwrapper::compute_debug_len_u8(x, flags),
-        Value::U16(x) => pwrapper::compute_debug_len_u16(x, flags),
-        Value::U32(x) => pwrapper::compute_debug_len_u32(x, flags),
-        Value::U64(x) => pwrapper::compute_debug_len_u64(x, flags),
-        Value::I8(x) => pwrapper::compute_debug_len_i8(x, flags),
-        Value::I16(x) => pwrapper::compute_debug_len_i16(x, flags),
-        Value::I32(x) => pwrapper::compute_debug_len_i32(x, flags),
-        Value::I64(x) => pwrapper::compute_debug_len_i64(x, flags),
-    }
 }
 
 // The flags of the forms that a case prints: 0 and 1 decimal, 2 to 4 hexadecimal, 5 and 6 binary.
@@ -133,11 +31,11 @@ fn flags_of(form: usize) -> FormattingFlags {
 }
 
 // The length of a form: 0 is the display form, the others are the debug form.
-fn form_len(v: Value, form: usize) -> usize {
+fn form_len<I: PrimitiveInteger>(x: I, form: usize) -> usize {
     if form == 0 {
-        return display_len(v);
+        return compute_display_len(x);
     }
-    debug_len(v, flags_of(form))
+    compute_debug_len(x, flags_of(form))
 }
 
 // The text in decimal.
@@ -173,18 +71,29 @@ fn put_form(i: Integer, form: usize, out: &mut [u8; 8192], at: usize) -> usize {
 }
 
 // The length of a form of a value, in a text, and its text.
-fn put_one(v: Value, form: usize, text: &[u8], out: &mut [u8; 8192], at: usize) -> usize {
-    let at = put_template(out, at, text, form_len(v, form) as u64, 0);
-    put_form(to_integer(v), form, out, at)
+fn put_one<I: PrimitiveInteger>(
+    x: I,
+    form: usize,
+    text: &[u8],
+    out: &mut [u8; 8192],
+    at: usize,
+) -> usize {
+    let at = put_template(out, at, text, form_len(x, form) as u64, 0);
+    put_form(to_integer(x), form, out, at)
 }
 
-// The length and the text of each form of a value.
-fn put_forms(v: Value, out: &mut [u8; 8192], at: usize) -> usize {
-    let mut to = put_one(v, 0, b"% ", out, at);
-    let mut form = 1;
-    while form < 7 {
-        to = put_one(v, form, b", % ", out, to);
-        form += 1;
+// The length and the text of each form of a value, or nothing where its type does not have it.
+fn put_forms<I: PrimitiveInteger>(
+    value: Result<I, TryFromIntError>,
+    out: &mut [u8; 8192],
+    at: usize,
+) -> usize {
+    let Ok(x) = value else {
+        return 0;
+    };
+    let mut to = put_one(x, 0, b"% ", out, at);
+    for form in 1..7 {
+        to = put_one(x, form, b", % ", out, to);
     }
     put_bytes(out, to, b"\n")
 }
@@ -205,12 +114,28 @@ fn signed_number(s: &[u8]) -> Signed {
     }
 }
 
-// A value of a type: n, or !n.
-fn put_value(kind: usize, is_negative: bool, n: u64, out: &mut [u8; 8192], at: usize) -> usize {
-    if greatest(kind) < n {
-        return 0;
+// The value n of an unsigned type, by its place in put_integer.
+fn put_unsigned(kind: usize, n: u64, out: &mut [u8; 8192], at: usize) -> usize {
+    match kind {
+        0 => put_forms(u8::try_from(n), out, at),
+        1 => put_forms(u16::try_from(n), out, at),
+        2 => put_forms(u32::try_from(n), out, at),
+        _ => put_forms(Ok(n), out, at),
     }
-    put_forms(to_value(kind, is_negative, n), out, at)
+}
+
+// The value n of a signed type, or -1 - n, by its place in put_integer.
+fn put_signed(kind: usize, is_negative: bool, n: u64, out: &mut [u8; 8192], at: usize) -> usize {
+    let Ok(n) = i64::try_from(n) else {
+        return 0;
+    };
+    let x = if is_negative { !n } else { n };
+    match kind {
+        4 => put_forms(i8::try_from(x), out, at),
+        5 => put_forms(i16::try_from(x), out, at),
+        6 => put_forms(i32::try_from(x), out, at),
+        _ => put_forms(Ok(x), out, at),
+    }
 }
 
 // `u8,VALUE` to `i64,VALUE`: the display form, and the debug form by six flags.
@@ -220,7 +145,12 @@ pub(crate) fn put_integer(word: &[u8], s: &[u8], out: &mut [u8; 8192], at: usize
         return 0;
     }
     match signed_number(s) {
-        Signed::Plus(n) => put_value(kind, false, n, out, at),
+        Signed::Plus(n) => {
+            if kind < 4 {
+                return put_unsigned(kind, n, out, at);
+            }
+            put_signed(kind, false, n, out, at)
+        }
         Signed::Minus(n) => {
             if kind < 4 {
                 return 0;
@@ -228,7 +158,7 @@ pub(crate) fn put_integer(word: &[u8], s: &[u8], out: &mut [u8; 8192], at: usize
             if n == 0 {
                 return 0;
             }
-            put_value(kind, true, n - 1, out, at)
+            put_signed(kind, true, n - 1, out, at)
         }
         Signed::Other => 0,
     }

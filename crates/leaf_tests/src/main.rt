@@ -10,7 +10,7 @@ mod integers;
 mod texts;
 
 use fields::{first_field, index_of, later_fields, place_of, put_hex};
-use integer_writes::write_u64_display;
+use integer_writes::write_display;
 use line_input::read_more;
 use lines::{MAX_LINE, Reader, next_line, part};
 use std::io::{self, Write};
@@ -62,7 +62,7 @@ pub(crate) fn put_template(
         if n == rest.len() {
             return to;
         }
-        to = write_u64_display(out, to, number).at;
+        to = write_display(out, to, number).at;
         number = later;
         start = start + n + 1;
     }

@@ -10,7 +10,7 @@ use Rattle.pwrapper.specs.Number.{display_text, twos_complement}
 use Rattle.pargument.specs.declared.Integer.{Integer}
 use Rattle.pargument.specs.Integer.{is_below_zero, integer_of, integer_bits, integer_display}
 
-below-zero : (z : ℤ) → lt_z z (pos 0) ≡ is_below_zero z
+pub below-zero : (z : ℤ) → lt_z z (pos 0) ≡ is_below_zero z
 below-zero (pos n) = le-ltb n 0 (omega arith)
 below-zero (negsuc n) = refl
 

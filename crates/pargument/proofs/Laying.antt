@@ -1,15 +1,10 @@
 -- Digits laid in an array from its end: the start, the step and the end of the loop, in any base from 2 on.
-use Rattle.std.proofs.Common.{◌≡◌, ℕ, zero, suc, ◌+◌, ◌-◌, ◌*◌, ◌/◌, ◌%◌, ◌<◌, ◌≤◌, List, [], ◌∷◌, ◌++◌, length, set, replicate, sym, refl, ap, ◌∙◌, ⊎_elim, append-nil, mod-eq_of_lt, div-lt_iff_lt-mul, arith, length-append}
+use Rattle.std.proofs.Common.{◌≡◌, ℕ, zero, suc, ◌-◌, ◌*◌, ◌/◌, ◌%◌, ◌<◌, ◌≤◌, List, [], ◌∷◌, ◌++◌, length, set, replicate, sym, refl, ap, ◌∙◌, ⊎_elim, append-nil, mod-eq_of_lt, div-lt_iff_lt-mul, arith, length-append}
 use native.Mathlib.Nat.{div-eq_of_lt}
 use lib.Seq.{append_snoc}
 use Rattle.pwrapper.specs.Digits.{digit_text}
 use Rattle.pwrapper.proofs.Digits.{lt_or_ge, text-low, text-step, text_pos}
-use Rattle.pargument.specs.Integer.{start_of, array_of}
-
--- an array of `size` bytes, zero before `at`, the text from there to its end
-pub record Ends (size : ℕ) (array : List ℕ) (at : ℕ) (text : List ℕ) : Type 0 where
-  pub bytes : array ≡ replicate at 0 ++ text
-  pub whole : at + length text ≡ size
+use Rattle.pargument.specs.Integer.{start_of, array_of, Ends}
 
 -- what the contracts say of the start and the array
 pub settled : {size : ℕ} {array : List ℕ} {at : ℕ} {text : List ℕ} → Ends size array at text → (at ≡ start_of size text) × (array ≡ array_of size text)
@@ -25,23 +20,23 @@ set-last-zero (suc k) t d = ap (λ (l : List ℕ). 0 ∷ l) (set-last-zero k t d
 pub put : {size : ℕ} {array : List ℕ} {at k : ℕ} {text : List ℕ} (d : ℕ) → at ≡ suc k → Ends size array at text → Ends size (set array k d) k (d ∷ text)
 put {k = k} {text = text} d e h = record { bytes = rw (h.bytes, e) (set-last-zero k text d); whole = omega arith }
 
--- the loop's invariant, with `room` for bytes before the digits of n in base b: those of the rest, and what is laid from `at` on, are those of n
-pub record Laying (f : ℕ → ℕ) (b room size n : ℕ) (array : List ℕ) (at rest : ℕ) : Type 0 where
+-- the loop's invariant: the digits of the rest in base b, and what is laid from `at` on, are those of n
+pub record Laying (f : ℕ → ℕ) (b size n : ℕ) (array : List ℕ) (at rest : ℕ) : Type 0 where
   pub laid : List ℕ
   pub ends : Ends size array at laid
-  pub fits : room + length (digit_text f b rest) ≤ at
+  pub fits : length (digit_text f b rest) ≤ at
   pub text : digit_text f b rest ++ laid ≡ digit_text f b n
 
-pub laying_start : {f : ℕ → ℕ} {b room n : ℕ} (size : ℕ) → room + length (digit_text f b n) ≤ size → Laying f b room size n (replicate size 0) size n
+pub laying_start : {f : ℕ → ℕ} {b n : ℕ} (size : ℕ) → length (digit_text f b n) ≤ size → Laying f b size n (replicate size 0) size n
 laying_start size h = record { laid = []; ends = record { bytes = sym (append-nil _); whole = omega arith }; fits = h; text = append-nil _ }
 
-module _ {f : ℕ → ℕ} {b room size n : ℕ} (b2 : 2 ≤ b) {array : List ℕ} {at rest : ℕ} (l : Laying f b room size n array at rest) where
+module _ {f : ℕ → ℕ} {b size n : ℕ} (b2 : 2 ≤ b) {array : List ℕ} {at rest : ℕ} (l : Laying f b size n array at rest) where
   -- there is a place for the next digit
-  pub laying_place : room < at
+  pub laying_place : 0 < at
   laying_place = omega (arith, text_pos b b2 f rest)
 
   module _ (d : ℕ) (e : d ≡ f (rest % b)) where
-    pub laying_step : (rest / b ≡ 0 → ⊥) → Laying f b room size n (set array (at - 1) d) (at - 1) (rest / b)
+    pub laying_step : (rest / b ≡ 0 → ⊥) → Laying f b size n (set array (at - 1) d) (at - 1) (rest / b)
     laying_step ne =
         let g : b ≤ rest = ⊎_elim (λ s. absurd (ne (div-eq_of_lt s))) (λ s. s) (lt_or_ge rest b) in
         let t = text-step b b2 f rest g in

@@ -1,2 +1,3 @@
 pub mod IntegerLaws
 pub mod Laying
+pub mod Masks

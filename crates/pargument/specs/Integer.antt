@@ -1,5 +1,5 @@
 -- Document 01, 'Beside the record': `Integer` and its digits laid in arrays.
-use Rattle.std.specs.Prelude.{ℕ, ◌-◌, ◌%◌, ◌^◌, Bool, true, false, cond, List, ◌∷◌, ◌++◌, length, replicate, ℤ, pos, negsuc, bit_and, unsigned_abs}
+use Rattle.std.specs.Prelude.{ℕ, ◌-◌, ◌%◌, ◌^◌, ◌≡◌, ◌+◌, Bool, true, false, cond, List, ◌∷◌, ◌++◌, length, replicate, ℤ, pos, negsuc, bit_and, unsigned_abs}
 use Rattle.pargument.specs.declared.Integer.{Integer}
 use Rattle.pwrapper.specs.Number.{decimal}
 
@@ -27,3 +27,8 @@ start_of n t = n - length t
 -- 'Beside the record': that array, zero before the text
 abbrev pub array_of : ℕ → List ℕ → List ℕ
 array_of n t = replicate (n - length t) 0 ++ t
+
+-- an array of `size` bytes, zero before `at`, the text from there to its end
+pub record Ends (size : ℕ) (array : List ℕ) (at : ℕ) (text : List ℕ) : Type 0 where
+  pub bytes : array ≡ replicate at 0 ++ text
+  pub whole : at + length text ≡ size

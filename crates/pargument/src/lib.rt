@@ -2,12 +2,14 @@
 // arrays (the to_start_array methods of wrapper_types/pwrapper.rs).
 #![tactic(auto)]
 
-ghost use Rattle.std.specs.Prelude.{◌≡◌, pos};
+ghost use Rattle.std.specs.Prelude.{◌≡◌, ◌≤◌, ◌<◌, ◌∷◌, List, ℕ, length};
+ghost use Rattle.formatting.specs.Hex.{hex_digit};
+ghost use Rattle.pwrapper.specs.Digits.{digit_text};
 ghost use Rattle.pwrapper.specs.Number.{hex_text, bin_text};
-ghost use Rattle.pargument.specs.Integer.{integer_of, integer_display, integer_bits, start_of, array_of};
+ghost use Rattle.pargument.specs.Integer.{integer_of, integer_display, integer_bits, start_of, array_of, Ends};
 
-use formatting::{FormattingFlags, hex_as_ascii};
-use pwrapper::{unsigned_abs_i8, unsigned_abs_i16, unsigned_abs_i32, unsigned_abs_i64};
+use formatting::{FormattingFlags, HexFormatting, hex_as_ascii};
+use pwrapper::PrimitiveInteger;
 
 #[derive(Clone, Copy)]
 pub struct Integer {
@@ -17,114 +19,54 @@ pub struct Integer {
     pub mask: u64,
 }
 
-// Texts written from the end of an array: the place of the first byte. The bytes before are zero.
+// A text written from the end of an array: the place of its first byte. The bytes before are zero.
 #[derive(Clone, Copy)]
-pub struct StartAndArray66 {
+pub struct StartAndArray<const N: usize> {
     pub start: usize,
-    pub array: [u8; 66],
+    pub array: [u8; N],
 }
 
-#[derive(Clone, Copy)]
-pub struct StartAndArray18 {
-    pub start: usize,
-    pub array: [u8; 18],
-}
-
-#[derive(Clone, Copy)]
-pub struct StartAndArray21 {
-    pub start: usize,
-    pub array: [u8; 21],
-}
-
-// The sign and the absolute value of a u8, with the mask of its bits.
-pub fn to_integer_u8(n: u8) -> Integer
-    ensures { result ≡ integer_of 8 (pos n) }
+// The sign and the absolute value of an integer, with the mask of its bits.
+pub fn to_integer<I: PrimitiveInteger>(x: I) -> Integer
+    ensures { result ≡ integer_of I.BITS (I.value x) }
 {
     Integer {
-        is_negative: false,
-        unsigned: n as u64,
-        mask: 255,
+        is_negative: x.is_negative(),
+        unsigned: x.absolute_value(),
+        mask: u64::MAX >> (64 - I::BITS),
     }
 }
 
-// The sign and the absolute value of a u16, with the mask of its bits.
-pub fn to_integer_u16(n: u16) -> Integer
-    ensures { result ≡ integer_of 16 (pos n) }
-{
-    Integer {
-        is_negative: false,
-        unsigned: n as u64,
-        mask: 65535,
+impl<const N: usize> StartAndArray<N> {
+    // The digits of n in a base, at the end of an array that has room for them.
+    fn digits<const BASE: u64>(n: u64, hex_fmt: HexFormatting) -> StartAndArray<N>
+        requires base { (2 ≤ BASE) × (BASE ≤ 16) }
+        requires room { length (digit_text (hex_digit hex_fmt) BASE n) ≤ N }
+        ensures { Ends N result.array result.start (digit_text (hex_digit hex_fmt) BASE n) }
+    {
+        let mut array = [0u8; N];
+        let mut at = N;
+        let mut rest = n;
+        let start = loop {
+            at -= 1;
+            array[at] = hex_as_ascii((rest % BASE) as u8, hex_fmt);
+            rest /= BASE;
+            if rest == 0 {
+                break at;
+            }
+        };
+        StartAndArray { start, array }
     }
-}
 
-// The sign and the absolute value of a u32, with the mask of its bits.
-pub fn to_integer_u32(n: u32) -> Integer
-    ensures { result ≡ integer_of 32 (pos n) }
-{
-    Integer {
-        is_negative: false,
-        unsigned: n as u64,
-        mask: 4294967295,
-    }
-}
-
-// The sign and the absolute value of a u64, with the mask of its bits.
-pub fn to_integer_u64(n: u64) -> Integer
-    ensures { result ≡ integer_of 64 (pos n) }
-{
-    Integer {
-        is_negative: false,
-        unsigned: n,
-        mask: 18446744073709551615,
-    }
-}
-
-// The sign and the absolute value of an i8, with the mask of its bits.
-pub fn to_integer_i8(x: i8) -> Integer
-    ensures { result ≡ integer_of 8 x }
-{
-    let unsigned = unsigned_abs_i8(x);
-    Integer {
-        is_negative: x < 0,
-        unsigned: unsigned as u64,
-        mask: 255,
-    }
-}
-
-// The sign and the absolute value of an i16, with the mask of its bits.
-pub fn to_integer_i16(x: i16) -> Integer
-    ensures { result ≡ integer_of 16 x }
-{
-    let unsigned = unsigned_abs_i16(x);
-    Integer {
-        is_negative: x < 0,
-        unsigned: unsigned as u64,
-        mask: 65535,
-    }
-}
-
-// The sign and the absolute value of an i32, with the mask of its bits.
-pub fn to_integer_i32(x: i32) -> Integer
-    ensures { result ≡ integer_of 32 x }
-{
-    let unsigned = unsigned_abs_i32(x);
-    Integer {
-        is_negative: x < 0,
-        unsigned: unsigned as u64,
-        mask: 4294967295,
-    }
-}
-
-// The sign and the absolute value of an i64, with the mask of its bits.
-pub fn to_integer_i64(x: i64) -> Integer
-    ensures { result ≡ integer_of 64 x }
-{
-    let unsigned = unsigned_abs_i64(x);
-    Integer {
-        is_negative: x < 0,
-        unsigned: unsigned,
-        mask: 18446744073709551615,
+    // The text with one byte before it.
+    fn after(self, byte: u8) -> StartAndArray<N>
+        requires { (0 < self.start) × (self.start ≤ N) }
+        ensures { (t : List ℕ) → Ends N self.entry.array self.entry.start t → Ends N result.array result.start (byte ∷ t) }
+    {
+        let start = self.start - 1;
+        let mut array = self.array;
+        array[start] = byte;
+        StartAndArray { start, array }
     }
 }
 
@@ -134,92 +76,47 @@ impl Integer {
         ensures { result ≡ integer_bits self }
     {
         if self.is_negative {
-            let negated = std::num::wrapping_sub_u64(0, self.unsigned);
-            return negated & self.mask;
+            self.unsigned.wrapping_neg() & self.mask
+        } else {
+            self.unsigned & self.mask
         }
-        self.unsigned & self.mask
     }
 
     // The binary text at the end of an array, with its prefix where the flags say so.
-    pub fn to_start_array_binary(self, flags: FormattingFlags) -> StartAndArray66
+    pub fn to_start_array_binary(self, flags: FormattingFlags) -> StartAndArray<66>
         ensures { (result.start ≡ start_of 66 (bin_text flags (integer_bits self))) × (result.array ≡ array_of 66 (bin_text flags (integer_bits self))) }
     {
-        let mut array = [0u8; 66];
-        let mut at: usize = 66;
-        let mut rest = self.bits();
-        let start = loop {
-            at -= 1;
-            array[at] = b'0' + (rest % 2) as u8;
-            rest /= 2;
-            if rest == 0 {
-                break at;
-            }
-        };
+        let digits = StartAndArray::<66>::digits::<2>(self.bits(), flags.hex_fmt);
         if flags.is_alternate {
-            array[start - 1] = b'b';
-            array[start - 2] = b'0';
-            return StartAndArray66 {
-                start: start - 2,
-                array,
-            };
+            return digits.after(b'b').after(b'0');
         }
-        StartAndArray66 { start, array }
+        digits
     }
 
     // The hexadecimal text at the end of an array, with its prefix where the flags say so.
-    pub fn to_start_array_hexadecimal(self, flags: FormattingFlags) -> StartAndArray18
+    pub fn to_start_array_hexadecimal(self, flags: FormattingFlags) -> StartAndArray<18>
         ensures { (result.start ≡ start_of 18 (hex_text flags (integer_bits self))) × (result.array ≡ array_of 18 (hex_text flags (integer_bits self))) }
     {
-        let mut array = [0u8; 18];
-        let mut at: usize = 18;
-        let mut rest = self.bits();
-        let hex_fmt = flags.hex_fmt;
-        let start = loop {
-            at -= 1;
-            array[at] = hex_as_ascii((rest % 16) as u8, hex_fmt);
-            rest /= 16;
-            if rest == 0 {
-                break at;
-            }
-        };
+        let digits = StartAndArray::<18>::digits::<16>(self.bits(), flags.hex_fmt);
         if flags.is_alternate {
-            array[start - 1] = b'x';
-            array[start - 2] = b'0';
-            return StartAndArray18 {
-                start: start - 2,
-                array,
-            };
+            return digits.after(b'x').after(b'0');
         }
-        StartAndArray18 { start, array }
+        digits
     }
 
     // The decimal text at the end of an array.
-    pub fn to_start_array_display(self) -> StartAndArray21
+    pub fn to_start_array_display(self) -> StartAndArray<21>
         ensures { (result.start ≡ start_of 21 (integer_display self)) × (result.array ≡ array_of 21 (integer_display self)) }
     {
-        let mut array = [0u8; 21];
-        let mut at: usize = 21;
-        let mut rest = self.unsigned;
-        let start = loop {
-            at -= 1;
-            array[at] = b'0' + (rest % 10) as u8;
-            rest /= 10;
-            if rest == 0 {
-                break at;
-            }
-        };
+        let digits = StartAndArray::<21>::digits::<10>(self.unsigned, HexFormatting::Upper);
         if self.is_negative {
-            array[start - 1] = b'-';
-            return StartAndArray21 {
-                start: start - 1,
-                array,
-            };
+            return digits.after(b'-');
         }
-        StartAndArray21 { start, array }
+        digits
     }
 
     // The decimal text too: the debug form in decimal is the display form.
-    pub fn to_start_array_debug(self) -> StartAndArray21
+    pub fn to_start_array_debug(self) -> StartAndArray<21>
         ensures { (result.start ≡ start_of 21 (integer_display self)) × (result.array ≡ array_of 21 (integer_display self)) }
     {
         self.to_start_array_display()

@@ -5,7 +5,7 @@ use mathlib.Core.Logic.{inl, inr, ⊎_elim}
 use mathlib.Core.List.{map-append}
 use Prim.Native.Nat.{zero-le}
 use native.Mathlib.Nat.{le_trans, le_of_suc-le-suc, div-lt_self, div-div-eq-div-mul, le-div_iff_mul-le, div-one, pow-suc, pow-succ', mul_comm}
-use native.Mathlib.Nat.{pow-zero, eq-zero-or-pos, pow-le-pow_right, one-mul, div-lt_iff_lt-mul, zero-add}
+use native.Mathlib.Nat.{mod-lt, pow-zero, eq-zero-or-pos, pow-le-pow_right, one-mul, div-lt_iff_lt-mul, zero-add}
 use native.Mathlib.Decide.{le_ind}
 use native.Mathlib.Omega.{arith}
 use lib.Dec.{lit≤}
@@ -13,7 +13,9 @@ use lib.Count.{count_leading_zeros, leading_length, leading_top, leading_of_zero
 use lib.Pow.{pow-add, pow_mono}
 use lib.ListN.{length-append, length-map}
 use borrow.Author.Tests.{lt-ltb, le-ltb, ltb-true, ltb-false}
-use Rattle.pwrapper.specs.Digits.{digits_in, digits, digit_text}
+use Rattle.formatting.specs.declared.flags.HexFormatting.{HexFormatting}
+use Rattle.formatting.specs.Hex.{hex_digit}
+use Rattle.pwrapper.specs.Digits.{digits_in, digits, digit_text, dec_digit}
 
 pub lt_or_ge : (n m : ℕ) → (n < m) ⊎ (m ≤ n)
 lt_or_ge n m = go (ltb n m) refl
@@ -103,9 +105,6 @@ module _ (b : ℕ) (b2 : 2 ≤ b) where
     unfolding digit_text
     text-length n = simp length-map
 
-    pub text_pow : (k n : ℕ) → b ^ k ≤ n → length (digit_text f b n) ≡ k + length (digit_text f b (n / b ^ k))
-    text_pow k n h = simp text-length (digits_pow k n h)
-
     pub text-one : (n : ℕ) → n < b → length (digit_text f b n) ≡ 1
     text-one n h = rw (text-low n h)
 
@@ -114,6 +113,12 @@ module _ (b : ℕ) (b2 : 2 ≤ b) where
 
     pub text-short : (k n : ℕ) → n < b ^ suc k → length (digit_text f b n) ≤ suc k
     text-short k n h = rw text-length (digits-short k n h)
+
+-- up to base ten a hexadecimal digit is a decimal one
+pub same_digits : (h : HexFormatting) (b : ℕ) → 2 ≤ b → b ≤ 10 → (n : ℕ) → digit_text (hex_digit h) b n ≡ digit_text dec_digit b n
+same_digits h b b2 b10 = by_digits b b2 (λ (n : ℕ). digit_text (hex_digit h) b n ≡ digit_text dec_digit b n)
+    (λ n l. rw (text-low b b2 (hex_digit h) n l, text-low b b2 dec_digit n l) (rw (lt-ltb n 10 (le_trans l b10)) refl))
+    (λ n l e. rw (text-step b b2 (hex_digit h) n l, text-step b b2 dec_digit n l, e, lt-ltb (n % b) 10 (le_trans (mod-lt n (omega arith)) b10)) refl)
 
 -- a power of 16 as one of 2
 pub sixteen : (q : ℕ) → 16 ^ q ≡ 2 ^ (4 * q)

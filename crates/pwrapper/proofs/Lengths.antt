@@ -1,17 +1,14 @@
--- The lengths of the texts of a number: thresholds of the decimal digits, the sign, the prefix.
-use Rattle.std.specs.Prelude.{◌≡◌, ℕ, ◌+◌, ◌/◌, ◌^◌, ◌<◌, ◌≤◌, Bool, true, false, ◌++◌, length, ℤ, pos, nat_abs}
-use mathlib.Core.Path.{ap, ◌∙◌}
+-- The lengths of the texts of a number: the decimal digits, the sign, the prefix.
+use Rattle.std.specs.Prelude.{◌≡◌, ℕ, ◌+◌, ◌^◌, ◌<◌, ◌≤◌, Bool, true, false, cond, [], ◌∷◌, ◌++◌, length, ℤ, pos, negsuc, unsigned_abs}
+use Rattle.std.specs.Int.{is_negative}
+use mathlib.Core.Path.{refl}
+use borrow.Author.Tests.{le-ltb}
 use native.Mathlib.Nat.{le_trans, pow-le-pow_left}
 use native.Mathlib.Omega.{arith}
 use lib.Dec.{lit≤}
-use lib.Signed.{lt_z}
-use mir.Syntax.{Width}
-use mir.Val.{SFits, of_z, to_z}
-use mir.ValLaws.{to_z-of_z}
 use Rattle.pwrapper.specs.Digits.{digits, digit_text, dec_digit}
 use Rattle.pwrapper.specs.Number.{decimal, display_text, prefix}
-use Rattle.pwrapper.proofs.Digits.{digits-short, text-length, text_pow, text-one}
-use Rattle.pwrapper.proofs.Sign.{below, from}
+use Rattle.pwrapper.proofs.Digits.{digits-short, text-length, text-one}
 
 -- at most 64 digits in any base, of a number of 64 bits
 pub at-most-64 : (b : ℕ) → 2 ≤ b → (n : ℕ) → n < 2 ^ 64 → length (digits b n) ≤ 64
@@ -22,26 +19,6 @@ decimal-64 n h = rw (text-length 10 (lit≤ tt) dec_digit n) (at-most-64 10 (lit
 
 pub decimal-one : (n : ℕ) → n < 10 → length (decimal n) ≡ 1
 decimal-one = text-one 10 (lit≤ tt) dec_digit
-
--- a threshold's step: k digits more than the quotient has
-pub decimal-more : (k n r : ℕ) → 10 ^ k ≤ n → r ≡ length (decimal (n / 10 ^ k)) → r + k ≡ length (decimal n)
-decimal-more k n r h e = omega (arith, text_pow 10 (lit≤ tt) dec_digit k n h)
-
--- len is the length of the absolute value's decimal text: the display form's, by the sign
-pub record Signed (w : Width) (z : ℤ) (len : ℕ) : Type 0 where
-  pub minus : lt_z (to_z w (of_z w z)) (pos 0) ≡ true → len + 1 ≡ length (display_text z)
-  pub no_minus : lt_z (to_z w (of_z w z)) (pos 0) ≡ false → len ≡ length (display_text z)
-  pub room : len ≤ 64
-
--- a is the absolute value of z as a call takes z
-pub signed : (w : Width) (z : ℤ) → SFits w z → (a len : ℕ) → a ≡ nat_abs (to_z w (of_z w z)) → len ≡ length (decimal a) → a < 2 ^ 64 → Signed w z len
-signed w z f a len abs e h =
-    let size : a ≡ nat_abs z = abs ∙ ap nat_abs (to_z-of_z w z f) in
-    record {
-      minus = λ t. rw ((below w z f t).text, ← size) (omega arith);
-      no_minus = λ t. rw ((from w z f t).text, ← size) e;
-      room = rw e (decimal-64 a h);
-    }
 
 -- len is the count of the digits: the text's length, by whether it has a prefix
 pub record Prefixed (f : ℕ → ℕ) (b n x : ℕ) (t : Bool) (len : ℕ) : Type 0 where
@@ -55,3 +32,8 @@ prefixed f b n x t len b2 e h = record {
   bare = λ a. rw a (omega (arith, text-length b b2 f n));
   room = rw e (at-most-64 b b2 n h);
 }
+
+-- an integer's text, by its sign and its absolute value
+pub signed-text : (z : ℤ) → display_text z ≡ cond (is_negative z) (45 ∷ []) [] ++ decimal (unsigned_abs z)
+signed-text (pos n) = rw (le-ltb n 0 (omega arith)) refl
+signed-text (negsuc n) = refl

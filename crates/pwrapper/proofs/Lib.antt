@@ -3,4 +3,3 @@ pub mod Escapes
 pub mod Lengths
 pub mod Ranges
 pub mod Shortest
-pub mod Sign

@@ -8,11 +8,7 @@ use char_encoding::{char_debug_len, char_display_len};
 use error::Answer;
 use formatting::flags_of;
 use pwrapper::{
-    compute_debug_len_i8, compute_debug_len_i16, compute_debug_len_i32, compute_debug_len_i64,
-    compute_debug_len_u8, compute_debug_len_u16, compute_debug_len_u32, compute_debug_len_u64,
-    compute_display_len_i8, compute_display_len_i16, compute_display_len_i32,
-    compute_display_len_i64, compute_display_len_u8, compute_display_len_u16,
-    compute_display_len_u32, compute_display_len_u64, compute_utf8_debug_len_in_range,
+    PrimitiveInteger, compute_debug_len, compute_display_len, compute_utf8_debug_len_in_range,
 };
 use str_writer::{char_fault, str_fault};
 use utils::Range;
@@ -28,12 +24,29 @@ fn add(total: &mut usize, len: usize) -> u8
     Answer::CountTooLarge.number()
 }
 
+// Counts an integer in decimal.
+fn count_display<I: PrimitiveInteger>(total: &mut usize, x: I) -> u8
+    ensures { totals result total.new ≡ counts total.old (integer display I.BITS (I.value x)) }
+{
+    add(total, compute_display_len(x))
+}
+
+// Counts an integer in the form that the flags say.
+fn count_debug<I: PrimitiveInteger>(total: &mut usize, x: I, flags: u64) -> u8
+    ensures { totals result total.new ≡ counts_by flags total.old (integer debug I.BITS (I.value x)) }
+{
+    if flags >= 12 {
+        return Answer::WrongCall.number();
+    }
+    add(total, compute_debug_len(x, flags_of(flags)))
+}
+
 // Counts a u8 in decimal.
 #[unsafe(no_mangle)]
 pub extern "C" fn single_count_u8_display(total: &mut usize, x: u8) -> u8
     ensures { totals result total.new ≡ counts total.old (integer display 8 (pos x)) }
 {
-    add(total, compute_display_len_u8(x))
+    count_display(total, x)
 }
 
 // Counts a u8 in the form that the flags say.
@@ -41,10 +54,7 @@ pub extern "C" fn single_count_u8_display(total: &mut usize, x: u8) -> u8
 pub extern "C" fn single_count_u8_debug(total: &mut usize, x: u8, flags: u64) -> u8
     ensures { totals result total.new ≡ counts_by flags total.old (integer debug 8 (pos x)) }
 {
-    if flags >= 12 {
-        return Answer::WrongCall.number();
-    }
-    add(total, compute_debug_len_u8(x, flags_of(flags)))
+    count_debug(total, x, flags)
 }
 
 // Counts a u16 in decimal.
@@ -52,7 +62,7 @@ pub extern "C" fn single_count_u8_debug(total: &mut usize, x: u8, flags: u64) ->
 pub extern "C" fn single_count_u16_display(total: &mut usize, x: u16) -> u8
     ensures { totals result total.new ≡ counts total.old (integer display 16 (pos x)) }
 {
-    add(total, compute_display_len_u16(x))
+    count_display(total, x)
 }
 
 // Counts a u16 in the form that the flags say.
@@ -60,10 +70,7 @@ pub extern "C" fn single_count_u16_display(total: &mut usize, x: u16) -> u8
 pub extern "C" fn single_count_u16_debug(total: &mut usize, x: u16, flags: u64) -> u8
     ensures { totals result total.new ≡ counts_by flags total.old (integer debug 16 (pos x)) }
 {
-    if flags >= 12 {
-        return Answer::WrongCall.number();
-    }
-    add(total, compute_debug_len_u16(x, flags_of(flags)))
+    count_debug(total, x, flags)
 }
 
 // Counts a u32 in decimal.
@@ -71,7 +78,7 @@ pub extern "C" fn single_count_u16_debug(total: &mut usize, x: u16, flags: u64) 
 pub extern "C" fn single_count_u32_display(total: &mut usize, x: u32) -> u8
     ensures { totals result total.new ≡ counts total.old (integer display 32 (pos x)) }
 {
-    add(total, compute_display_len_u32(x))
+    count_display(total, x)
 }
 
 // Counts a u32 in the form that the flags say.
@@ -79,10 +86,7 @@ pub extern "C" fn single_count_u32_display(total: &mut usize, x: u32) -> u8
 pub extern "C" fn single_count_u32_debug(total: &mut usize, x: u32, flags: u64) -> u8
     ensures { totals result total.new ≡ counts_by flags total.old (integer debug 32 (pos x)) }
 {
-    if flags >= 12 {
-        return Answer::WrongCall.number();
-    }
-    add(total, compute_debug_len_u32(x, flags_of(flags)))
+    count_debug(total, x, flags)
 }
 
 // Counts a u64 in decimal.
@@ -90,7 +94,7 @@ pub extern "C" fn single_count_u32_debug(total: &mut usize, x: u32, flags: u64) 
 pub extern "C" fn single_count_u64_display(total: &mut usize, x: u64) -> u8
     ensures { totals result total.new ≡ counts total.old (integer display 64 (pos x)) }
 {
-    add(total, compute_display_len_u64(x))
+    count_display(total, x)
 }
 
 // Counts a u64 in the form that the flags say.
@@ -98,10 +102,7 @@ pub extern "C" fn single_count_u64_display(total: &mut usize, x: u64) -> u8
 pub extern "C" fn single_count_u64_debug(total: &mut usize, x: u64, flags: u64) -> u8
     ensures { totals result total.new ≡ counts_by flags total.old (integer debug 64 (pos x)) }
 {
-    if flags >= 12 {
-        return Answer::WrongCall.number();
-    }
-    add(total, compute_debug_len_u64(x, flags_of(flags)))
+    count_debug(total, x, flags)
 }
 
 // Counts an i8 in decimal.
@@ -109,7 +110,7 @@ pub extern "C" fn single_count_u64_debug(total: &mut usize, x: u64, flags: u64) 
 pub extern "C" fn single_count_i8_display(total: &mut usize, x: i8) -> u8
     ensures { totals result total.new ≡ counts total.old (integer display 8 x) }
 {
-    add(total, compute_display_len_i8(x))
+    count_display(total, x)
 }
 
 // Counts an i8 in the form that the flags say.
@@ -117,10 +118,7 @@ pub extern "C" fn single_count_i8_display(total: &mut usize, x: i8) -> u8
 pub extern "C" fn single_count_i8_debug(total: &mut usize, x: i8, flags: u64) -> u8
     ensures { totals result total.new ≡ counts_by flags total.old (integer debug 8 x) }
 {
-    if flags >= 12 {
-        return Answer::WrongCall.number();
-    }
-    add(total, compute_debug_len_i8(x, flags_of(flags)))
+    count_debug(total, x, flags)
 }
 
 // Counts an i16 in decimal.
@@ -128,7 +126,7 @@ pub extern "C" fn single_count_i8_debug(total: &mut usize, x: i8, flags: u64) ->
 pub extern "C" fn single_count_i16_display(total: &mut usize, x: i16) -> u8
     ensures { totals result total.new ≡ counts total.old (integer display 16 x) }
 {
-    add(total, compute_display_len_i16(x))
+    count_display(total, x)
 }
 
 // Counts an i16 in the form that the flags say.
@@ -136,10 +134,7 @@ pub extern "C" fn single_count_i16_display(total: &mut usize, x: i16) -> u8
 pub extern "C" fn single_count_i16_debug(total: &mut usize, x: i16, flags: u64) -> u8
     ensures { totals result total.new ≡ counts_by flags total.old (integer debug 16 x) }
 {
-    if flags >= 12 {
-        return Answer::WrongCall.number();
-    }
-    add(total, compute_debug_len_i16(x, flags_of(flags)))
+    count_debug(total, x, flags)
 }
 
 // Counts an i32 in decimal.
@@ -147,7 +142,7 @@ pub extern "C" fn single_count_i16_debug(total: &mut usize, x: i16, flags: u64) 
 pub extern "C" fn single_count_i32_display(total: &mut usize, x: i32) -> u8
     ensures { totals result total.new ≡ counts total.old (integer display 32 x) }
 {
-    add(total, compute_display_len_i32(x))
+    count_display(total, x)
 }
 
 // Counts an i32 in the form that the flags say.
@@ -155,10 +150,7 @@ pub extern "C" fn single_count_i32_display(total: &mut usize, x: i32) -> u8
 pub extern "C" fn single_count_i32_debug(total: &mut usize, x: i32, flags: u64) -> u8
     ensures { totals result total.new ≡ counts_by flags total.old (integer debug 32 x) }
 {
-    if flags >= 12 {
-        return Answer::WrongCall.number();
-    }
-    add(total, compute_debug_len_i32(x, flags_of(flags)))
+    count_debug(total, x, flags)
 }
 
 // Counts an i64 in decimal.
@@ -166,7 +158,7 @@ pub extern "C" fn single_count_i32_debug(total: &mut usize, x: i32, flags: u64) 
 pub extern "C" fn single_count_i64_display(total: &mut usize, x: i64) -> u8
     ensures { totals result total.new ≡ counts total.old (integer display 64 x) }
 {
-    add(total, compute_display_len_i64(x))
+    count_display(total, x)
 }
 
 // Counts an i64 in the form that the flags say.
@@ -174,10 +166,7 @@ pub extern "C" fn single_count_i64_display(total: &mut usize, x: i64) -> u8
 pub extern "C" fn single_count_i64_debug(total: &mut usize, x: i64, flags: u64) -> u8
     ensures { totals result total.new ≡ counts_by flags total.old (integer debug 64 x) }
 {
-    if flags >= 12 {
-        return Answer::WrongCall.number();
-    }
-    add(total, compute_debug_len_i64(x, flags_of(flags)))
+    count_debug(total, x, flags)
 }
 
 // Counts a character.

@@ -7,10 +7,7 @@ ghost use Rattle.single_writes.specs.Laid.{of_parts, laid_in, laid_by, in_binary
 
 use error::Answer;
 use formatting::flags_of;
-use pargument::{
-    Integer, to_integer_i8, to_integer_i16, to_integer_i32, to_integer_i64, to_integer_u8,
-    to_integer_u16, to_integer_u32, to_integer_u64,
-};
+use pargument::{Integer, to_integer};
 
 // Leaves the absolute value and the mask in their places, and gives whether the integer is negative.
 fn leave(i: Integer, unsigned: &mut u64, mask: &mut u64) -> bool
@@ -26,7 +23,7 @@ fn leave(i: Integer, unsigned: &mut u64, mask: &mut u64) -> bool
 pub extern "C" fn single_to_integer_u8(x: u8, unsigned: &mut u64, mask: &mut u64) -> bool
     ensures { of_parts result unsigned.new mask.new ≡ integer_of 8 (pos x) }
 {
-    leave(to_integer_u8(x), unsigned, mask)
+    leave(to_integer(x), unsigned, mask)
 }
 
 // The parts of a u16: whether it is negative, its absolute value, and a mask of the bits of its type.
@@ -34,7 +31,7 @@ pub extern "C" fn single_to_integer_u8(x: u8, unsigned: &mut u64, mask: &mut u64
 pub extern "C" fn single_to_integer_u16(x: u16, unsigned: &mut u64, mask: &mut u64) -> bool
     ensures { of_parts result unsigned.new mask.new ≡ integer_of 16 (pos x) }
 {
-    leave(to_integer_u16(x), unsigned, mask)
+    leave(to_integer(x), unsigned, mask)
 }
 
 // The parts of a u32: whether it is negative, its absolute value, and a mask of the bits of its type.
@@ -42,7 +39,7 @@ pub extern "C" fn single_to_integer_u16(x: u16, unsigned: &mut u64, mask: &mut u
 pub extern "C" fn single_to_integer_u32(x: u32, unsigned: &mut u64, mask: &mut u64) -> bool
     ensures { of_parts result unsigned.new mask.new ≡ integer_of 32 (pos x) }
 {
-    leave(to_integer_u32(x), unsigned, mask)
+    leave(to_integer(x), unsigned, mask)
 }
 
 // The parts of a u64: whether it is negative, its absolute value, and a mask of the bits of its type.
@@ -50,7 +47,7 @@ pub extern "C" fn single_to_integer_u32(x: u32, unsigned: &mut u64, mask: &mut u
 pub extern "C" fn single_to_integer_u64(x: u64, unsigned: &mut u64, mask: &mut u64) -> bool
     ensures { of_parts result unsigned.new mask.new ≡ integer_of 64 (pos x) }
 {
-    leave(to_integer_u64(x), unsigned, mask)
+    leave(to_integer(x), unsigned, mask)
 }
 
 // The parts of an i8: whether it is negative, its absolute value, and a mask of the bits of its type.
@@ -58,7 +55,7 @@ pub extern "C" fn single_to_integer_u64(x: u64, unsigned: &mut u64, mask: &mut u
 pub extern "C" fn single_to_integer_i8(x: i8, unsigned: &mut u64, mask: &mut u64) -> bool
     ensures { of_parts result unsigned.new mask.new ≡ integer_of 8 x }
 {
-    leave(to_integer_i8(x), unsigned, mask)
+    leave(to_integer(x), unsigned, mask)
 }
 
 // The parts of an i16: whether it is negative, its absolute value, and a mask of the bits of its type.
@@ -66,7 +63,7 @@ pub extern "C" fn single_to_integer_i8(x: i8, unsigned: &mut u64, mask: &mut u64
 pub extern "C" fn single_to_integer_i16(x: i16, unsigned: &mut u64, mask: &mut u64) -> bool
     ensures { of_parts result unsigned.new mask.new ≡ integer_of 16 x }
 {
-    leave(to_integer_i16(x), unsigned, mask)
+    leave(to_integer(x), unsigned, mask)
 }
 
 // The parts of an i32: whether it is negative, its absolute value, and a mask of the bits of its type.
@@ -74,7 +71,7 @@ pub extern "C" fn single_to_integer_i16(x: i16, unsigned: &mut u64, mask: &mut u
 pub extern "C" fn single_to_integer_i32(x: i32, unsigned: &mut u64, mask: &mut u64) -> bool
     ensures { of_parts result unsigned.new mask.new ≡ integer_of 32 x }
 {
-    leave(to_integer_i32(x), unsigned, mask)
+    leave(to_integer(x), unsigned, mask)
 }
 
 // The parts of an i64: whether it is negative, its absolute value, and a mask of the bits of its type.
@@ -82,7 +79,7 @@ pub extern "C" fn single_to_integer_i32(x: i32, unsigned: &mut u64, mask: &mut u
 pub extern "C" fn single_to_integer_i64(x: i64, unsigned: &mut u64, mask: &mut u64) -> bool
     ensures { of_parts result unsigned.new mask.new ≡ integer_of 64 x }
 {
-    leave(to_integer_i64(x), unsigned, mask)
+    leave(to_integer(x), unsigned, mask)
 }
 
 // Lays the binary text of an integer at the end of the array; start is the place of its first byte.

@@ -18,12 +18,8 @@ ghost use Rattle.single_writes.specs.Single.{entire, between, gives, writes, wri
 
 use error::Answer;
 use formatting::flags_of;
-use integer_writes::{
-    write_i8_debug, write_i8_display, write_i16_debug, write_i16_display, write_i32_debug,
-    write_i32_display, write_i64_debug, write_i64_display, write_u8_debug, write_u8_display,
-    write_u16_debug, write_u16_display, write_u32_debug, write_u32_display, write_u64_debug,
-    write_u64_display,
-};
+use integer_writes::{write_debug, write_display};
+use pwrapper::PrimitiveInteger;
 use quoted_writes::{
     write_ascii_debug, write_ascii_range_debug, write_str_debug, write_str_range_debug,
 };
@@ -192,13 +188,32 @@ pub extern "C" fn single_write_char_debug(buf: &mut [u8], cursor: &mut usize, c:
     answered(cursor, w)
 }
 
+// Writes an integer at the cursor, in decimal.
+fn put_display<I: PrimitiveInteger>(buf: &mut [u8], cursor: &mut usize, x: I) -> u8
+    ensures { gives result cursor.new buf.new ≡ writes buf.old cursor.old (integer display I.BITS (I.value x)) }
+{
+    let w = write_display(buf, *cursor, x);
+    answered(cursor, w)
+}
+
+// Writes an integer at the cursor, in the form that the flags say.
+fn put_debug<I: PrimitiveInteger>(buf: &mut [u8], cursor: &mut usize, x: I, flags: u64) -> u8
+    ensures { gives result cursor.new buf.new
+        ≡ writes_by flags buf.old cursor.old (integer debug I.BITS (I.value x)) }
+{
+    if flags >= 12 {
+        return no_flags(buf.len(), *cursor);
+    }
+    let w = write_debug(buf, *cursor, x, flags_of(flags));
+    answered(cursor, w)
+}
+
 // Writes a u8 at the cursor, in decimal.
 #[unsafe(no_mangle)]
 pub extern "C" fn single_write_u8_display(buf: &mut [u8], cursor: &mut usize, x: u8) -> u8
     ensures { gives result cursor.new buf.new ≡ writes buf.old cursor.old (integer display 8 (pos x)) }
 {
-    let w = write_u8_display(buf, *cursor, x);
-    answered(cursor, w)
+    put_display(buf, cursor, x)
 }
 
 // Writes a u8 at the cursor, in the form that the flags say.
@@ -206,11 +221,7 @@ pub extern "C" fn single_write_u8_display(buf: &mut [u8], cursor: &mut usize, x:
 pub extern "C" fn single_write_u8_debug(buf: &mut [u8], cursor: &mut usize, x: u8, flags: u64) -> u8
     ensures { gives result cursor.new buf.new ≡ writes_by flags buf.old cursor.old (integer debug 8 (pos x)) }
 {
-    if flags >= 12 {
-        return no_flags(buf.len(), *cursor);
-    }
-    let w = write_u8_debug(buf, *cursor, x, flags_of(flags));
-    answered(cursor, w)
+    put_debug(buf, cursor, x, flags)
 }
 
 // Writes a u16 at the cursor, in decimal.
@@ -218,8 +229,7 @@ pub extern "C" fn single_write_u8_debug(buf: &mut [u8], cursor: &mut usize, x: u
 pub extern "C" fn single_write_u16_display(buf: &mut [u8], cursor: &mut usize, x: u16) -> u8
     ensures { gives result cursor.new buf.new ≡ writes buf.old cursor.old (integer display 16 (pos x)) }
 {
-    let w = write_u16_display(buf, *cursor, x);
-    answered(cursor, w)
+    put_display(buf, cursor, x)
 }
 
 // Writes a u16 at the cursor, in the form that the flags say.
@@ -232,11 +242,7 @@ pub extern "C" fn single_write_u16_debug(
 ) -> u8
     ensures { gives result cursor.new buf.new ≡ writes_by flags buf.old cursor.old (integer debug 16 (pos x)) }
 {
-    if flags >= 12 {
-        return no_flags(buf.len(), *cursor);
-    }
-    let w = write_u16_debug(buf, *cursor, x, flags_of(flags));
-    answered(cursor, w)
+    put_debug(buf, cursor, x, flags)
 }
 
 // Writes a u32 at the cursor, in decimal.
@@ -244,8 +250,7 @@ pub extern "C" fn single_write_u16_debug(
 pub extern "C" fn single_write_u32_display(buf: &mut [u8], cursor: &mut usize, x: u32) -> u8
     ensures { gives result cursor.new buf.new ≡ writes buf.old cursor.old (integer display 32 (pos x)) }
 {
-    let w = write_u32_display(buf, *cursor, x);
-    answered(cursor, w)
+    put_display(buf, cursor, x)
 }
 
 // Writes a u32 at the cursor, in the form that the flags say.
@@ -258,11 +263,7 @@ pub extern "C" fn single_write_u32_debug(
 ) -> u8
     ensures { gives result cursor.new buf.new ≡ writes_by flags buf.old cursor.old (integer debug 32 (pos x)) }
 {
-    if flags >= 12 {
-        return no_flags(buf.len(), *cursor);
-    }
-    let w = write_u32_debug(buf, *cursor, x, flags_of(flags));
-    answered(cursor, w)
+    put_debug(buf, cursor, x, flags)
 }
 
 // Writes a u64 at the cursor, in decimal.
@@ -270,8 +271,7 @@ pub extern "C" fn single_write_u32_debug(
 pub extern "C" fn single_write_u64_display(buf: &mut [u8], cursor: &mut usize, x: u64) -> u8
     ensures { gives result cursor.new buf.new ≡ writes buf.old cursor.old (integer display 64 (pos x)) }
 {
-    let w = write_u64_display(buf, *cursor, x);
-    answered(cursor, w)
+    put_display(buf, cursor, x)
 }
 
 // Writes a u64 at the cursor, in the form that the flags say.
@@ -284,11 +284,7 @@ pub extern "C" fn single_write_u64_debug(
 ) -> u8
     ensures { gives result cursor.new buf.new ≡ writes_by flags buf.old cursor.old (integer debug 64 (pos x)) }
 {
-    if flags >= 12 {
-        return no_flags(buf.len(), *cursor);
-    }
-    let w = write_u64_debug(buf, *cursor, x, flags_of(flags));
-    answered(cursor, w)
+    put_debug(buf, cursor, x, flags)
 }
 
 // Writes an i8 at the cursor, in decimal.
@@ -296,8 +292,7 @@ pub extern "C" fn single_write_u64_debug(
 pub extern "C" fn single_write_i8_display(buf: &mut [u8], cursor: &mut usize, x: i8) -> u8
     ensures { gives result cursor.new buf.new ≡ writes buf.old cursor.old (integer display 8 x) }
 {
-    let w = write_i8_display(buf, *cursor, x);
-    answered(cursor, w)
+    put_display(buf, cursor, x)
 }
 
 // Writes an i8 at the cursor, in the form that the flags say.
@@ -305,11 +300,7 @@ pub extern "C" fn single_write_i8_display(buf: &mut [u8], cursor: &mut usize, x:
 pub extern "C" fn single_write_i8_debug(buf: &mut [u8], cursor: &mut usize, x: i8, flags: u64) -> u8
     ensures { gives result cursor.new buf.new ≡ writes_by flags buf.old cursor.old (integer debug 8 x) }
 {
-    if flags >= 12 {
-        return no_flags(buf.len(), *cursor);
-    }
-    let w = write_i8_debug(buf, *cursor, x, flags_of(flags));
-    answered(cursor, w)
+    put_debug(buf, cursor, x, flags)
 }
 
 // Writes an i16 at the cursor, in decimal.
@@ -317,8 +308,7 @@ pub extern "C" fn single_write_i8_debug(buf: &mut [u8], cursor: &mut usize, x: i
 pub extern "C" fn single_write_i16_display(buf: &mut [u8], cursor: &mut usize, x: i16) -> u8
     ensures { gives result cursor.new buf.new ≡ writes buf.old cursor.old (integer display 16 x) }
 {
-    let w = write_i16_display(buf, *cursor, x);
-    answered(cursor, w)
+    put_display(buf, cursor, x)
 }
 
 // Writes an i16 at the cursor, in the form that the flags say.
@@ -331,11 +321,7 @@ pub extern "C" fn single_write_i16_debug(
 ) -> u8
     ensures { gives result cursor.new buf.new ≡ writes_by flags buf.old cursor.old (integer debug 16 x) }
 {
-    if flags >= 12 {
-        return no_flags(buf.len(), *cursor);
-    }
-    let w = write_i16_debug(buf, *cursor, x, flags_of(flags));
-    answered(cursor, w)
+    put_debug(buf, cursor, x, flags)
 }
 
 // Writes an i32 at the cursor, in decimal.
@@ -343,8 +329,7 @@ pub extern "C" fn single_write_i16_debug(
 pub extern "C" fn single_write_i32_display(buf: &mut [u8], cursor: &mut usize, x: i32) -> u8
     ensures { gives result cursor.new buf.new ≡ writes buf.old cursor.old (integer display 32 x) }
 {
-    let w = write_i32_display(buf, *cursor, x);
-    answered(cursor, w)
+    put_display(buf, cursor, x)
 }
 
 // Writes an i32 at the cursor, in the form that the flags say.
@@ -357,11 +342,7 @@ pub extern "C" fn single_write_i32_debug(
 ) -> u8
     ensures { gives result cursor.new buf.new ≡ writes_by flags buf.old cursor.old (integer debug 32 x) }
 {
-    if flags >= 12 {
-        return no_flags(buf.len(), *cursor);
-    }
-    let w = write_i32_debug(buf, *cursor, x, flags_of(flags));
-    answered(cursor, w)
+    put_debug(buf, cursor, x, flags)
 }
 
 // Writes an i64 at the cursor, in decimal.
@@ -369,8 +350,7 @@ pub extern "C" fn single_write_i32_debug(
 pub extern "C" fn single_write_i64_display(buf: &mut [u8], cursor: &mut usize, x: i64) -> u8
     ensures { gives result cursor.new buf.new ≡ writes buf.old cursor.old (integer display 64 x) }
 {
-    let w = write_i64_display(buf, *cursor, x);
-    answered(cursor, w)
+    put_display(buf, cursor, x)
 }
 
 // Writes an i64 at the cursor, in the form that the flags say.
@@ -383,11 +363,7 @@ pub extern "C" fn single_write_i64_debug(
 ) -> u8
     ensures { gives result cursor.new buf.new ≡ writes_by flags buf.old cursor.old (integer debug 64 x) }
 {
-    if flags >= 12 {
-        return no_flags(buf.len(), *cursor);
-    }
-    let w = write_i64_debug(buf, *cursor, x, flags_of(flags));
-    answered(cursor, w)
+    put_debug(buf, cursor, x, flags)
 }
 
 // Takes the cursor back to a length; one past the cursor changes nothing.

@@ -3,17 +3,13 @@ use mathlib.Core.Bool.{Bool, true, false, cond}
 use mathlib.Core.Option.{none, some}
 use mathlib.Core.Path.{◌≡◌, refl, sym, ap, ◌∙◌}
 use mathlib.Core.List.{List, [], ◌∷◌, ◌++◌}
-use Prim.Native.Nat.{ℕ, zero, suc, ◌+◌, ◌-◌, ◌^◌}
+use Prim.Native.Nat.{ℕ, zero, suc, ◌+◌, ◌-◌}
 use native.Mathlib.Omega.{arith}
 use lib.Dec.{ltb}
-use lib.IntN.{ℤ, pos, negsuc, nat_abs}
+use lib.IntN.{ℤ, pos}
 use lib.ListN.{length}
 use lib.Seq.{length-slice}
-use lib.Signed.{lt_z}
-use mir.Syntax.{Width}
-use mir.Val.{SFits, of_z, to_z}
-use mir.ValLaws.{to_z-of_z}
-use borrow.Author.Tests.{lt-ltb, le-ltb}
+use borrow.Author.Tests.{lt-ltb}
 use Rattle.error.specs.declared.Answer.{Answer}
 use Rattle.error.specs.declared.Answer.TheVariants.{Done, NotEnoughSpace, NotAscii, NotOnCharBoundary, NotUtf8, NotAChar, CountTooLarge, TooDeep, WrongCall, BadCursor}
 use Rattle.error.specs.Answer.{number_of, answer_of, is_done}
@@ -129,11 +125,3 @@ clamped_length s r q e = rw e (sym (length-slice (saturated s r).start (saturate
 -- a quoted text whose count is 0 has more than 2^64 - 1 bytes
 pub quoted-refused : (t : List ℕ) (q : DebugLen) → q ≡ count_of (length (quoted t)) → (n : ℕ) (b : List ℕ) → q.len ≡ 0 → to (counting n) b 6 ≡ put_in (counting n) b (quoted t)
 quoted-refused t q e n b z = rw (lt-ltb most (n + length (quoted t)) (omega (arith, count-above t q e z)))
-
--- the two's complement at a width, by the sign
-pub twos_by_sign : (w : Width) (z : ℤ) → SFits w z → (k : ℕ) → twos_complement k z ≡ cond (lt_z (to_z w (of_z w z)) (pos 0)) (2 ^ k - nat_abs z) (nat_abs z)
-twos_by_sign w z f k = rw (to_z-of_z w z f) (by_sign z)
-  where
-    by_sign : (z : ℤ) → twos_complement k z ≡ cond (lt_z z (pos 0)) (2 ^ k - nat_abs z) (nat_abs z)
-    by_sign (pos n) = rw (le-ltb n 0 (omega arith))
-    by_sign (negsuc n) = refl

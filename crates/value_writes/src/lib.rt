@@ -1,6 +1,8 @@
 // A value counted or written as one piece: the text of strings is lent beside it.
 #![tactic(auto)]
 
+mod integer_value;
+
 ghost use Rattle.std.specs.Prelude.{◌≡◌, true, List, ℕ, ◌+◌, ◌^◌, ℤ, length};
 ghost use Rattle.error.specs.declared.Answer.TheVariants.{Done};
 ghost use Rattle.error.specs.Answer.{number_of};
@@ -17,10 +19,9 @@ ghost use Rattle.value_writes.specs.Values.{form_of, bits_of, heeded_by, integer
 use char_encoding::{char_debug_len, char_display_len};
 use error::Answer;
 use formatting::{FormattingFlags, NumberFormatting};
-use integer_writes::{decimal_len, write_debug};
-use pwrapper::{
-    binary_len_u64, compute_utf8_debug_len_in_range, hexadecimal_len_u64, unsigned_abs_i64,
-};
+pub use integer_value::IntegerValue;
+use integer_writes::write_debug_parts;
+use pwrapper::{binary_len, compute_utf8_debug_len_in_range, decimal_len, hexadecimal_len};
 use quoted_writes::put_quoted_part;
 use str_writer::{
     ascii_fault, char_fault, put_char_debug, put_part, range_fault, str_fault, write_ascii_repeated,
@@ -151,7 +152,7 @@ fn parts_of(form: Form, x: Integer, flags: FormattingFlags) -> Parts
         Integer::Signed(width, z) => Parts {
             flags: heeded,
             is_negative: z < 0,
-            n: unsigned_abs_i64(z),
+            n: z.unsigned_abs(),
             bits: bits_at(width, z),
         },
     }
@@ -174,14 +175,10 @@ fn bits_at(width: Width, x: i64) -> u64
     ensures { result ≡ twos_complement (bits_of width) x }
 {
     if x < 0 {
-        let n = (!x) as u64;
-        let most = greatest(width);
-        if most < n {
-            return 0;
-        }
-        return most - n;
+        greatest(width).saturating_sub((!x).cast_unsigned())
+    } else {
+        x.cast_unsigned()
     }
-    x as u64
 }
 
 // An integer counted or written. Its functions have one call site each: the compiler lays them into
@@ -196,7 +193,7 @@ fn put_integer(m: WriterBackend, buf: &mut [u8], p: Parts) -> Wrote
     }
     from_written(
         m,
-        write_debug(buf, m.number, p.is_negative, p.n, p.bits, flags),
+        write_debug_parts(buf, m.number, p.is_negative, p.n, p.bits, flags),
     )
 }
 
@@ -206,8 +203,8 @@ fn debug_len(is_negative: bool, n: u64, bits: u64, flags: FormattingFlags) -> us
     let num_fmt = flags.num_fmt;
     match num_fmt {
         NumberFormatting::Decimal => decimal_len(is_negative, n),
-        NumberFormatting::Hexadecimal => hexadecimal_len_u64(bits, flags),
-        NumberFormatting::Binary => binary_len_u64(bits, flags),
+        NumberFormatting::Hexadecimal => hexadecimal_len(bits, flags),
+        NumberFormatting::Binary => binary_len(bits, flags),
     }
 }
 

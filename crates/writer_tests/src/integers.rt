@@ -3,138 +3,92 @@
 use crate::texts::Played;
 use fields::{Number, first_field, later_fields, number, place_of, same};
 use formatting::{FormattingFlags, flags_of};
+use integer_writes::{write_debug, write_display};
 use lines::part;
-use str_writer::Written;
+use pwrapper::PrimitiveInteger;
+use std::num::TryFromIntError;
 use utils::slice_up_to_len;
 
-// A value of its type.
 #[derive(Clone, Copy)]
-pub enum Integer {
-    U8(u8),
-    U16(u16),
-    U32(u32),
-    U64(u64),
-    I8(i8),
-    I16(i16),
-    I32(i32),
-    I64(i64),
+enum Form {
+    Display,
+    Debug(FormattingFlags),
 }
 
-// A field as a value, or a field of another form.
-#[derive(Clone, Copy)]
-pub enum Value {
-    Is(Integer),
-    Other,
-}
-
-// The display form.
-fn display(x: Integer, buf: &mut [u8], at: usize) -> Written {
-    match x {
-        Integer::U8(x) => integer_writes::write_u8_display(buf, at, x),
-        Integer::U16(x) => integer_writes::write_u16_display(buf, at, x),
-        Integer::U32(x) => integer_writes::write_u32_display(buf, at, x),
-        Integer::U64(x) => integer_writes::write_u64_display(buf, at, x),
-        Integer::I8(x) => integer_writes::write_i8_display(buf, at, x),
-        Integer::I16(x) => integer_writes::write_i16_display(buf, at, x),
-        Integer::I32(x) => integer_writes::write_i32_display(buf, at, x),
-        Integer::I64(x) => integer_writes::write_i64_display(buf, at, x),
+// A write of a value, if its type has it.
+fn written<I: PrimitiveInteger>(
+    value: Result<I, TryFromIntError>,
+    form: Form,
+    buf: &mut [u8],
+    at: usize,
+) -> Played {
+    let Ok(x) = value else {
+        return Played::Other;
+    };
+    match form {
+        Form::Display => Played::Gave(write_display(buf, at, x)),
+        Form::Debug(flags) => Played::Gave(write_debug(buf, at, x, flags)),
     }
 }
 
-// The debug form by the flags.
-fn debug(x: Integer, flags: FormattingFlags, buf: &mut [u8], at: usize) -> Written {
-    match x {
-        Integer::U8(x) => integer_writes::write_u8_debug(buf, at, x, flags),
-        Integer::U16(x) => integer_writes::write_u16_debug(buf, at, x, flags),
-        Integer::U32(x) => integer_writes::write_u32_debug(buf, at, x, flags),
-        Integer::U64(x) => integer_writes::write_u64_debug(buf, at, x, flags),
-        Integer::I8(x) => integer_writes::write_i8_debug(buf, at, x, flags),
-        Integer::I16(x) => integer_writes::write_i16_debug(buf, at, x, flags),
-        Integer::I32(x) => integer_writes::write_i32_debug(buf, at, x, flags),
-        Integer::I64(x) => integer_writes::write_i64_debug(buf, at, x, flags),
+// A write of n as a value of an unsigned type.
+fn unsigned(k: usize, n: u64, form: Form, buf: &mut [u8], at: usize) -> Played {
+    match k {
+        0 => written(u8::try_from(n), form, buf, at),
+        1 => written(u16::try_from(n), form, buf, at),
+        2 => written(u32::try_from(n), form, buf, at),
+        _ => written(Ok(n), form, buf, at),
     }
 }
 
-// n as a value of an unsigned type that has it: each remainder is n.
-fn unsigned(k: usize, n: u64) -> Integer {
-    if k == 0 {
-        return Integer::U8((n % 256) as u8);
+// A write of x as a value of a signed type.
+fn signed(k: usize, x: i64, form: Form, buf: &mut [u8], at: usize) -> Played {
+    match k {
+        4 => written(i8::try_from(x), form, buf, at),
+        5 => written(i16::try_from(x), form, buf, at),
+        6 => written(i32::try_from(x), form, buf, at),
+        _ => written(Ok(x), form, buf, at),
     }
-    if k == 1 {
-        return Integer::U16((n % 65536) as u16);
-    }
-    if k == 2 {
-        return Integer::U32((n % 4294967296) as u32);
-    }
-    Integer::U64(n)
 }
 
-// n as a value of a signed type that has it: each remainder is n.
-fn positive(k: usize, n: u64) -> Integer {
-    if k == 4 {
-        return Integer::I8((n % 128) as i8);
+// A write of the negative number whose absolute value a field is in decimal.
+fn negative(k: usize, s: &[u8], form: Form, buf: &mut [u8], at: usize) -> Played {
+    let Number::Is(n) = number(s, u64::MAX) else {
+        return Played::Other;
+    };
+    if n == 0 {
+        return Played::Other;
     }
-    if k == 5 {
-        return Integer::I16((n % 32768) as i16);
-    }
-    if k == 6 {
-        return Integer::I32((n % 2147483648) as i32);
-    }
-    Integer::I64((n % 9223372036854775808) as i64)
+    let Ok(x) = i64::try_from(n - 1) else {
+        return Played::Other;
+    };
+    signed(k, !x, form, buf, at)
 }
 
-// -1 - n as a value of a signed type that has it: each remainder is n.
-fn negative(k: usize, n: u64) -> Integer {
-    if k == 4 {
-        return Integer::I8(!((n % 128) as i8));
+// A write of the value that a field is in decimal, if its type has it.
+fn call(k: usize, s: &[u8], form: Form, buf: &mut [u8], at: usize) -> Played {
+    if 4 <= k && same(slice_up_to_len(s, 1), b"-") {
+        return negative(k, part(s, 1, s.len()), form, buf, at);
     }
-    if k == 5 {
-        return Integer::I16(!((n % 32768) as i16));
-    }
-    if k == 6 {
-        return Integer::I32(!((n % 2147483648) as i32));
-    }
-    Integer::I64(!((n % 9223372036854775808) as i64))
-}
-
-// The value that a field is in decimal, if the type has it.
-fn value_of(k: usize, s: &[u8]) -> Value {
-    let greatest = [255, 65535, 4294967295, u64::MAX];
-    let most = greatest[k % 4];
+    let Number::Is(n) = number(s, u64::MAX) else {
+        return Played::Other;
+    };
     if k < 4 {
-        return match number(s, most) {
-            Number::Is(n) => Value::Is(unsigned(k, n)),
-            Number::Other => Value::Other,
-        };
+        return unsigned(k, n, form, buf, at);
     }
-    if same(slice_up_to_len(s, 1), b"-") {
-        let Number::Is(n) = number(part(s, 1, s.len()), most - most / 2) else {
-            return Value::Other;
-        };
-        if n == 0 {
-            return Value::Other;
-        }
-        return Value::Is(negative(k, n - 1));
-    }
-    match number(s, most / 2) {
-        Number::Is(n) => Value::Is(positive(k, n)),
-        Number::Other => Value::Other,
-    }
+    let Ok(x) = i64::try_from(n) else {
+        return Played::Other;
+    };
+    signed(k, x, form, buf, at)
 }
 
 // `VALUE`.
 pub(crate) fn display_call(k: usize, arguments: &[u8], buf: &mut [u8], at: usize) -> Played {
-    let Value::Is(x) = value_of(k, arguments) else {
-        return Played::Other;
-    };
-    Played::Gave(display(x, buf, at))
+    call(k, arguments, Form::Display, buf, at)
 }
 
 // `VALUE,dec|hex|bin,upper|lower,plain|alt`.
 pub(crate) fn debug_call(k: usize, arguments: &[u8], buf: &mut [u8], at: usize) -> Played {
-    let Value::Is(x) = value_of(k, first_field(arguments)) else {
-        return Played::Other;
-    };
     let words = later_fields(arguments);
     let base = place_of(first_field(words), b"dec,hex,bin");
     let others = later_fields(words);
@@ -150,5 +104,6 @@ pub(crate) fn debug_call(k: usize, arguments: &[u8], buf: &mut [u8], at: usize) 
         return Played::Other;
     }
     let n = 4 * base + 2 * digits + layout;
-    Played::Gave(debug(x, flags_of(n as u64), buf, at))
+    let flags = flags_of(n as u64);
+    call(k, first_field(arguments), Form::Debug(flags), buf, at)
 }

@@ -1,12 +1,14 @@
-use borrow.Author.Rules.{rules}
 use mathlib.Core.Bool.{false}
-use mathlib.Core.Path.{refl, sym}
+use mathlib.Core.Path.{refl}
 use lib.IntN.{pos}
-use lib.Signed.{lt_z}
+use borrow.Author.Rules.{rules}
 use mir.Syntax.{w64}
-use mir.Val.{SFits, to_z, of_z}
+use mir.Val.{SFits}
 use mir.ValLaws.{to_z-of_z}
-use Rattle.integer_writes.proofs.IntegerText.{signed-text}
+use Rattle.std.specs.Int.RustNames.{unsigned_abs}
+use Rattle.pwrapper.specs.Number.{twos_complement}
+use Rattle.std.specs.Int.{is_negative}
+use Rattle.pwrapper.proofs.Lengths.{signed-text}
 use Rattle.value_writes.specs.Values.{form_of, bits_of}
 use Rattle.value_writes.proofs.ValueLaws.{integer-text}
 use Rattle.value_writes.proofs.parts_of.Goals as goal
@@ -19,6 +21,6 @@ returns-in-Unsigned c = let a = c.args in
 pub returns-in-Signed : goal.returns-in-Signed
 returns-in-Signed c = let a = c.args in
     let z = c.in-Signed.z in
+    let k = bits_of c.in-Signed.width in
     let f : SFits w64 z = search rules in
-    let n = c.unsigned_abs_i64 in
-    rw c.in-Signed.is (integer-text (form_of a.form) a.flags (bits_of c.in-Signed.width) z (record { flags = c.flags_for-heeded.result; is_negative = lt_z (to_z w64 (of_z w64 z)) (pos 0); n = n.result; bits = c.bits_at.result }) c.flags_for-heeded.ensures (signed-text w64 z f n.result n.ensures) (sym (rw (to_z-of_z w64 z f) at c.bits_at.ensures)))
+    rw (c.in-Signed.is, c.unsigned_abs.ensures.value, c.bits_at.ensures, to_z-of_z w64 z f) (integer-text (form_of a.form) a.flags k z (record { flags = c.flags_for-heeded.result; is_negative = is_negative z; n = unsigned_abs z; bits = twos_complement k z }) c.flags_for-heeded.ensures (signed-text z) refl)

@@ -17,5 +17,5 @@ pub returns : goal.returns
 unfolding input_fault cut_fault
 returns c f m k z h p = let a = c.args in
     c.from_written.ensures _
-    ∙ wrote_at a.m c.is_counting.ensures c.if-is_counting.false c.write_debug.result _
-    ∙ value-placed a.m a.buf.now f (integer m k z) h Done (judged_uncut (mode_of a.m) (integer m k z) Done refl refl) refl refl (writes a.m c.is_counting.ensures c.if-is_counting.false) (c.write_debug.ensures.buf_after ∙ ap (put a.buf.now a.m.number) (sym p))
+    ∙ wrote_at a.m c.is_counting.ensures c.if-is_counting.false c.write_debug_parts.result _
+    ∙ value-placed a.m a.buf.now f (integer m k z) h Done (judged_uncut (mode_of a.m) (integer m k z) Done refl refl) refl refl (writes a.m c.is_counting.ensures c.if-is_counting.false) (c.write_debug_parts.ensures.buf_after ∙ ap (put a.buf.now a.m.number) (sym p))

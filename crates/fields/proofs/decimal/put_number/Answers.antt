@@ -7,8 +7,8 @@ pub returns-then-buf-at : goal.returns-then-buf-at
 returns-then-buf-at c = let a = c.args in put_bad a.buf.now a.at (cell a.n a.after) c.if-buf-at.true
 
 pub returns-then-buf-at-2 : goal.returns-then-buf-at-2
-returns-then-buf-at-2 c = let a = c.args in cell_full a.buf.now a.at a.n a.after c.compute_display_len_u64-len.ensures c.if-buf-at.false c.if-buf-at-2.true
+returns-then-buf-at-2 c = let a = c.args in cell_full a.buf.now a.at a.n a.after c.compute_display_len-len.ensures c.if-buf-at.false c.if-buf-at-2.true
 
 pub returns : goal.returns
 returns c = let a = c.args in
-    cell-done a.buf.now a.at a.n a.after c.compute_display_len_u64-len.ensures c.if-buf-at.false _ _ c.if-buf-at-2.false c.write_decimal.ensures
+    cell-done a.buf.now a.at a.n a.after c.compute_display_len-len.ensures c.if-buf-at.false _ _ c.if-buf-at-2.false c.write_decimal.ensures

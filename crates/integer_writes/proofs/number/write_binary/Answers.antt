@@ -1,87 +1,9 @@
-use mathlib.Core.List.{List, ◌++◌}
-use mathlib.Core.Path.{◌≡◌, refl, sym, ◌∙◌}
-use Prim.Native.Nat.{ℕ, ◌≤◌}
-use native.Mathlib.Omega.{arith}
-use lib.ListN.{length}
-use Rattle.pwrapper.specs.Digits.{digit_text, dec_digit}
-use Rattle.pwrapper.specs.Number.{prefix}
-use Rattle.str_writer.specs.Write.{put}
-use Rattle.str_writer.proofs.Judging.{cursor-fits, put-cursor, put-met}
-use Rattle.integer_writes.proofs.IntegerText.{Prefixed, prefixed}
+use Rattle.std.proofs.Common.{lit≤}
+use Rattle.pwrapper.proofs.Digits.{same_digits}
 use Rattle.integer_writes.proofs.number.write_binary.Goals as goal
 
-pub returns-then-not-is_done : goal.returns-then-not-is_done
-returns-then-not-is_done c =
-    let b = c.args.buf.now in
-    let at = c.args.at in
-    let front : List ℕ = prefix c.args.flags.is_alternate 98 in
-    let digits : List ℕ = digit_text dec_digit 2 c.args.n in
-    put-cursor b at (front ++ digits) _ (c.cursor_fault-fault.ensures b refl) (sym c.is_done.ensures ∙ c.if-not-is_done.true)
-
-pub returns-then-not-is_done-2 : goal.returns-then-not-is_done-2
-returns-then-not-is_done-2 c =
-    let b = c.args.buf.now in
-    let at = c.args.at in
-    let front : List ℕ = prefix c.args.flags.is_alternate 98 in
-    let digits : List ℕ = digit_text dec_digit 2 c.args.n in
-    -- past the test of the cursor it is in the buffer
-    let inside : at ≤ length b = cursor-fits b at _ (c.cursor_fault-fault.ensures b refl) (sym c.is_done.ensures ∙ c.if-not-is_done.false) in
-    -- then the room for the text is tested
-    let met : c.room_fault-short.result ≡ (put b at (front ++ digits)).written.answer = c.room_fault-short.ensures b (front ++ digits) at inside refl (sym c.binary_len_u64-bin_len.ensures) in
-    put-met b at (front ++ digits) _ met (sym c.is_done-2.ensures ∙ c.if-not-is_done-2.true)
-
-pub overflow_add-end : goal.overflow_add-end
-overflow_add-end c =
-    let b = c.args.buf.now in
-    let at = c.args.at in
-    let front : List ℕ = prefix c.args.flags.is_alternate 98 in
-    let digits : List ℕ = digit_text dec_digit 2 c.args.n in
-    -- past the test of the cursor it is in the buffer
-    let inside : at ≤ length b = cursor-fits b at _ (c.cursor_fault-fault.ensures b refl) (sym c.is_done.ensures ∙ c.if-not-is_done.false) in
-    -- then the room for the text is tested
-    let met : c.room_fault-short.result ≡ (put b at (front ++ digits)).written.answer = c.room_fault-short.ensures b (front ++ digits) at inside refl (sym c.binary_len_u64-bin_len.ensures) in
-    -- past it the text fits
-    let fits : Prefixed b at front digits c.binary_len_u64-bin_len.result = prefixed b at front digits c.binary_len_u64-bin_len.ensures _ met (sym c.is_done-2.ensures ∙ c.if-not-is_done-2.false) in
-    let h = fits.room in omega arith
-
-pub put_prefix-requires : goal.put_prefix-requires
-put_prefix-requires c =
-    let b = c.args.buf.now in
-    let at = c.args.at in
-    let front : List ℕ = prefix c.args.flags.is_alternate 98 in
-    let digits : List ℕ = digit_text dec_digit 2 c.args.n in
-    -- past the test of the cursor it is in the buffer
-    let inside : at ≤ length b = cursor-fits b at _ (c.cursor_fault-fault.ensures b refl) (sym c.is_done.ensures ∙ c.if-not-is_done.false) in
-    -- then the room for the text is tested
-    let met : c.room_fault-short.result ≡ (put b at (front ++ digits)).written.answer = c.room_fault-short.ensures b (front ++ digits) at inside refl (sym c.binary_len_u64-bin_len.ensures) in
-    -- past it the text fits
-    let fits : Prefixed b at front digits c.binary_len_u64-bin_len.result = prefixed b at front digits c.binary_len_u64-bin_len.ensures _ met (sym c.is_done-2.ensures ∙ c.if-not-is_done-2.false) in
-    fits.prefix
-
-pub lay_binary-requires : goal.lay_binary-requires
-lay_binary-requires c =
-    let b = c.args.buf.now in
-    let at = c.args.at in
-    let front : List ℕ = prefix c.args.flags.is_alternate 98 in
-    let digits : List ℕ = digit_text dec_digit 2 c.args.n in
-    -- past the test of the cursor it is in the buffer
-    let inside : at ≤ length b = cursor-fits b at _ (c.cursor_fault-fault.ensures b refl) (sym c.is_done.ensures ∙ c.if-not-is_done.false) in
-    -- then the room for the text is tested
-    let met : c.room_fault-short.result ≡ (put b at (front ++ digits)).written.answer = c.room_fault-short.ensures b (front ++ digits) at inside refl (sym c.binary_len_u64-bin_len.ensures) in
-    -- past it the text fits
-    let fits : Prefixed b at front digits c.binary_len_u64-bin_len.result = prefixed b at front digits c.binary_len_u64-bin_len.ensures _ met (sym c.is_done-2.ensures ∙ c.if-not-is_done-2.false) in
-    rw c.put_prefix.ensures fits.digits
+pub write_digits-requires-clause-whole : goal.write_digits-requires-clause-whole
+write_digits-requires-clause-whole c = rw (c.prefix_of.ensures, same_digits c.args.flags.hex_fmt 2 (lit≤ tt) (lit≤ tt) c.args.n) c.binary_len-len.ensures
 
 pub returns : goal.returns
-returns c =
-    let b = c.args.buf.now in
-    let at = c.args.at in
-    let front : List ℕ = prefix c.args.flags.is_alternate 98 in
-    let digits : List ℕ = digit_text dec_digit 2 c.args.n in
-    -- past the test of the cursor it is in the buffer
-    let inside : at ≤ length b = cursor-fits b at _ (c.cursor_fault-fault.ensures b refl) (sym c.is_done.ensures ∙ c.if-not-is_done.false) in
-    -- then the room for the text is tested
-    let met : c.room_fault-short.result ≡ (put b at (front ++ digits)).written.answer = c.room_fault-short.ensures b (front ++ digits) at inside refl (sym c.binary_len_u64-bin_len.ensures) in
-    -- past it the text fits
-    let fits : Prefixed b at front digits c.binary_len_u64-bin_len.result = prefixed b at front digits c.binary_len_u64-bin_len.ensures _ met (sym c.is_done-2.ensures ∙ c.if-not-is_done-2.false) in
-    rw (c.lay_binary.ensures, c.put_prefix.ensures) fits.done
+returns c = rw (c.prefix_of.ensures, same_digits c.args.flags.hex_fmt 2 (lit≤ tt) (lit≤ tt) c.args.n) at c.write_digits.ensures

@@ -1,69 +1,30 @@
--- `pargument::Integer::to_start_array_binary` meets its contract: the loop lays the digits (proofs/Laying), and the prefix is put before them.
-use Rattle.std.proofs.Common.{◌+◌, ◌%◌, ◌^◌, ◌<◌, ◌≤◌, refl, arith, lit≤}
-use Rattle.pwrapper.specs.Digits.{dec_digit}
-use Rattle.pwrapper.proofs.Digits.{text-short}
-use Rattle.pargument.proofs.Laying.{laying_start, laying_place, laying_step, laying_end, put, settled}
+use Rattle.std.proofs.Common.{◌^◌, ◌<◌, ◌≤◌, length, arith, lit≤}
+use Rattle.formatting.specs.Hex.{hex_digit}
+use Rattle.pwrapper.specs.Digits.{digit_text}
+use Rattle.pwrapper.proofs.Digits.{text-short, same_digits}
+use Rattle.pargument.proofs.Laying.{settled}
 use Rattle.pargument.proofs.Integer.to_start_array_binary.Goals as goal
 
-b2 : 2 ≤ 2
-b2 = lit≤ tt
+pub digits-digits-requires : goal.digits-digits-requires
+digits-digits-requires c =
+    let h : c.bits.result < 2 ^ 64 = omega arith in
+    let short : length (digit_text (hex_digit c.args.flags.hex_fmt) 2 c.bits.result) ≤ 64 = text-short 2 (lit≤ tt) (hex_digit c.args.flags.hex_fmt) 63 c.bits.result h in
+    omega arith
 
-pub loop-rest-init : goal.loop-rest-init
-loop-rest-init c = let h : c.bits-rest.result < 2 ^ 64 = omega arith in
-    laying_start 66 (omega (arith, text-short 2 b2 dec_digit 63 c.bits-rest.result h))
+pub after-requires : goal.after-requires
+after-requires c =
+    let h : c.bits.result < 2 ^ 64 = omega arith in
+    omega (arith, text-short 2 (lit≤ tt) (hex_digit c.args.flags.hex_fmt) 63 c.bits.result h)
 
-pub overflow_sub-at : goal.overflow_sub-at
-overflow_sub-at c =
-    let place : 2 < c.loop-rest.at = laying_place b2 c.loop-rest.invariant in
-    omega (arith, place)
-
-pub bounds-array-at : goal.bounds-array-at
-bounds-array-at c =
-    let place : 2 < c.loop-rest.at = laying_place b2 c.loop-rest.invariant in
-    omega (arith, place)
-
-pub loop-rest-smaller : goal.loop-rest-smaller
-loop-rest-smaller c =
-    let place : 2 < c.loop-rest.at = laying_place b2 c.loop-rest.invariant in
-    omega (arith, place)
-
-pub loop-rest-preserved : goal.loop-rest-preserved
-loop-rest-preserved c = laying_step b2 c.loop-rest.invariant (48 + c.loop-rest.rest % 2) refl c.if-rest-eq0.false
-
-pub overflow_sub-array : goal.overflow_sub-array
-overflow_sub-array c =
-    let place : 2 < c.loop-rest.at = laying_place b2 c.loop-rest.invariant in
-    omega (arith, place)
-
-pub bounds-array-start : goal.bounds-array-start
-bounds-array-start c =
-    let place : 2 < c.loop-rest.at = laying_place b2 c.loop-rest.invariant in
-    omega (arith, place)
-
-pub overflow_sub-array-then-flags : goal.overflow_sub-array-then-flags
-overflow_sub-array-then-flags c =
-    let place : 2 < c.loop-rest.at = laying_place b2 c.loop-rest.invariant in
-    omega (arith, place)
-
-pub bounds-array-start-then-flags : goal.bounds-array-start-then-flags
-bounds-array-start-then-flags c =
-    let place : 2 < c.loop-rest.at = laying_place b2 c.loop-rest.invariant in
-    omega (arith, place)
-
-pub overflow_sub-result : goal.overflow_sub-result
-overflow_sub-result c =
-    let place : 2 < c.loop-rest.at = laying_place b2 c.loop-rest.invariant in
-    omega (arith, place)
+pub after-requires-then-flags : goal.after-requires-then-flags
+after-requires-then-flags c =
+    let h : c.bits.result < 2 ^ 64 = omega arith in
+    omega (arith, (c.after.ensures _ c.digits-digits.ensures).whole, text-short 2 (lit≤ tt) (hex_digit c.args.flags.hex_fmt) 63 c.bits.result h)
 
 pub returns-then-flags : goal.returns-then-flags
 returns-then-flags c =
-    let place : 2 < c.loop-rest.at = laying_place b2 c.loop-rest.invariant in
-    let h = c.loop-rest in
-    let e = laying_end b2 h.invariant (48 + h.rest % 2) refl c.if-rest-eq0.true in
-    let l = place in
-    rw (c.if-flags.true, ← c.bits-rest.ensures) (settled (put 48 (omega arith) (put 98 (omega arith) e)))
+    let e = c.after-then-flags.ensures _ (c.after.ensures _ c.digits-digits.ensures) in
+    rw (c.if-flags.true, ← c.bits.ensures, ← same_digits c.args.flags.hex_fmt 2 (lit≤ tt) (lit≤ tt)) (settled e)
 
 pub returns : goal.returns
-returns c = let h = c.loop-rest in
-    rw (c.if-flags.false, ← c.bits-rest.ensures)
-    (settled (laying_end b2 h.invariant (48 + h.rest % 2) refl c.if-rest-eq0.true))
+returns c = rw (c.if-flags.false, ← c.bits.ensures, ← same_digits c.args.flags.hex_fmt 2 (lit≤ tt) (lit≤ tt)) (settled c.digits-digits.ensures)

@@ -1,5 +1,5 @@
 -- the sum of the bytes from start to i, of which none costs more than 3
-use Rattle.std.specs.Prelude.{◌≡◌, ◌-◌}
+use Rattle.std.specs.Prelude.{◌≡◌}
 use native.Mathlib.Omega.{arith}
 use Rattle.pwrapper.proofs.Escapes.{none_passed, byte_passed}
 use Rattle.pwrapper.proofs.quoted.costs.Goals as goal

@@ -1,6 +1,6 @@
 -- what the escapes of the first i bytes add, which is a usize
 use mathlib.Core.Path.{sym, ap, ◌∙◌}
-use Rattle.std.specs.Prelude.{◌+◌, ◌-◌, length}
+use Rattle.std.specs.Prelude.{◌+◌, length}
 use native.Mathlib.Omega.{arith}
 use Rattle.pwrapper.specs.QuotedCount.{count_of}
 use Rattle.pwrapper.proofs.Escapes.{Passed, none_passed, bytes-passed, all-passed, too_many, count-passes}

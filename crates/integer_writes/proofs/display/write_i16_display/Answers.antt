@@ -1,9 +1,0 @@
-use mathlib.Core.Path.{◌∙◌}
-use mir.Syntax.{w16}
-use Rattle.formatting.specs.Flags.{default_flags}
-use Rattle.integer_writes.proofs.IntegerText.{signed-text, display-put}
-use Rattle.integer_writes.proofs.display.write_i16_display.Goals as goal
-
-pub returns : goal.returns
-returns c = let n = c.unsigned_abs_i16-n in
-    c.write_decimal.ensures ∙ display-put default_flags c.args.buf.now c.args.at 16 c.args.x (signed-text w16 c.args.x c.ranges.x n.result n.ensures)

@@ -1,0 +1,5 @@
+use Rattle.pwrapper.proofs.Lengths.{signed-text}
+use Rattle.pwrapper.proofs.display.compute_display_len.Goals as goal
+
+pub returns : goal.returns
+returns g c = rw (c.is_negative.ensures, c.absolute_value.ensures, ← signed-text (g.I.PrimitiveInteger.value c.args.x)) at c.decimal_len.ensures

@@ -1,6 +1,0 @@
-use mathlib.Core.Path.{ap, ◌∙◌}
-use Rattle.calls.specs.Model.{wrote}
-use Rattle.single_writes.proofs.single_write_u64_display.Goals as goal
-
-pub returns : goal.returns
-returns c = c.answered.ensures _ ∙ ap (λ o. wrote o) c.write_u64_display-w.ensures
