@@ -1,3 +1,3 @@
 pub mod Grammar
-pub mod Ranges
 pub mod Rfc3629
+pub mod StdText
