@@ -181,10 +181,8 @@ fn put_one(v: Value, form: usize, text: &[u8], out: &mut [u8; 8192], at: usize) 
 // The length and the text of each form of a value.
 fn put_forms(v: Value, out: &mut [u8; 8192], at: usize) -> usize {
     let mut to = put_one(v, 0, b"% ", out, at);
-    let mut form = 1;
-    while form < 7 {
+    for form in 1..7 {
         to = put_one(v, form, b", % ", out, to);
-        form += 1;
     }
     put_bytes(out, to, b"\n")
 }
