@@ -14,16 +14,15 @@ pub enum AsciiStr {
 }
 
 impl AsciiStr {
-    // Tests a text.
+    // Tests a text. The loop ends sooner on a short text than the iterator's `position`.
+    #[tactic(auto, using(crate::proofs::Laws::above, crate::proofs::Laws::below, crate::proofs::Laws::end))]
     pub fn new(s: &[u8]) -> Self
         ensures { result ≡ ascii_from 0 s.now }
     {
-        let mut i = 0;
-        while i < s.len() {
-            if s[i] > 127 {
-                return AsciiStr::NotAsciiError { invalid_from: i };
+        for (invalid_from, b) in s.iter().enumerate() {
+            if *b > 127 {
+                return AsciiStr::NotAsciiError { invalid_from };
             }
-            i += 1;
         }
         AsciiStr::Ascii
     }

@@ -47,13 +47,8 @@ fn make_call(fmt: Formatter, buf: &mut [u8], call: &[u8]) -> FormatterStep {
 // Makes the calls of a line, each behind a semicolon: the last answer.
 fn make_calls(fmt: Formatter, buf: &mut [u8], calls: &[u8]) -> FormatterStep {
     let mut step = other(fmt);
-    let mut rest = calls;
-    while 0 < rest.len() {
-        let call = &rest[1..];
-        let n = index_of(call, b';');
-        let before = step.fmt;
-        step = make_call(before, buf, &call[0..n]);
-        rest = &call[n..];
+    for call in calls.split(|b| *b == b';').skip(1) {
+        step = make_call(step.fmt, buf, call);
     }
     step
 }
@@ -61,11 +56,8 @@ fn make_calls(fmt: Formatter, buf: &mut [u8], calls: &[u8]) -> FormatterStep {
 // Makes the calls of a line as often as n says: the last answer.
 fn repeat(fmt: Formatter, buf: &mut [u8], calls: &[u8], n: u64) -> FormatterStep {
     let mut step = other(fmt);
-    let mut left = n;
-    while 0 < left {
-        let before = step.fmt;
-        step = make_calls(before, buf, calls);
-        left -= 1;
+    for _ in 0..n {
+        step = make_calls(step.fmt, buf, calls);
     }
     step
 }

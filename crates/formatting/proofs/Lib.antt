@@ -1,2 +1,1 @@
-pub mod FlagsNumbers
 pub mod Letters

@@ -1,10 +1,8 @@
 -- Document 01, 'A character' and 'A string': what stands between quotation marks.
-use Rattle.std.specs.Prelude.{Bool, true, false, cond, List, [], ◌∷◌, ◌++◌, ◌≡◌, ◌≢◌, ℕ, ◌/◌, ◌%◌, ltb, eqb}
+use Rattle.std.specs.Prelude.{Bool, true, false, cond, Option, Some, None, List, [], ◌∷◌, ◌++◌, ◌≡◌, ◌≢◌, ℕ, ◌/◌, ◌%◌, ltb, eqb}
 use Prim.Native.Char.{code}
 use Rattle.formatting.specs.declared.escaping.Escape.{Escape}
 use Rattle.formatting.specs.declared.escaping.Escape.TheVariants.{Bare, Backslash, Hexadecimal}
-use Rattle.formatting.specs.declared.escaping.EscapeLetter.{EscapeLetter}
-use Rattle.formatting.specs.declared.escaping.EscapeLetter.TheVariants.{Letter, None}
 use Rattle.formatting.specs.declared.flags.HexFormatting.TheVariants.{Upper}
 use Rattle.formatting.specs.Hex.{hex_digit}
 
@@ -25,17 +23,17 @@ paired_with found other [] b = other
 paired_with found other ((byte, letter) ∷ pairs) b = cond (eqb b byte) (found letter) (paired_with found other pairs b)
 
 -- 'A character': the letter of a byte, or none
-unfoldable pub letter_of : ℕ → EscapeLetter
-letter_of b = paired_with Letter None escape_letters b
+unfoldable pub letter_of : ℕ → Option ℕ
+letter_of b = paired_with Some None escape_letters b
 
 -- document 02, ticket 4: of the 256 bytes six have document 01's letters, and every other one has none (proved in proofs/Letters)
 pub record LettersRight : Type 0 where
-  pub tab : letter_of 9 ≡ Letter (code "t")
-  pub line-feed : letter_of 10 ≡ Letter (code "n")
-  pub return : letter_of 13 ≡ Letter (code "r")
-  pub quotation_mark : letter_of 34 ≡ Letter (code "\"")
-  pub apostrophe : letter_of 39 ≡ Letter (code "'")
-  pub backslash : letter_of 92 ≡ Letter (code "\\")
+  pub tab : letter_of 9 ≡ Some (code "t")
+  pub line-feed : letter_of 10 ≡ Some (code "n")
+  pub return : letter_of 13 ≡ Some (code "r")
+  pub quotation_mark : letter_of 34 ≡ Some (code "\"")
+  pub apostrophe : letter_of 39 ≡ Some (code "'")
+  pub backslash : letter_of 92 ≡ Some (code "\\")
   pub other : (b : ℕ) → b ≢ 9 → b ≢ 10 → b ≢ 13 → b ≢ 34 → b ≢ 39 → b ≢ 92 → letter_of b ≡ None
 
 -- 'A character': a byte that has a letter becomes a backslash and the letter; other codes below 32 become `\x` and digits; the rest stay

@@ -20,32 +20,24 @@ pub fn hex_as_ascii(n: u8, hex_fmt: HexFormatting) -> u8
     }
 }
 
-// The letter of a byte's escape.
-#[derive(Clone, Copy)]
-pub enum EscapeLetter {
-    // A backslash and this letter stand for the byte.
-    Letter(u8),
-    // The byte has no such escape.
-    None,
-}
-
 // The letter that stands behind a backslash for a byte between quotation marks: six bytes have one.
-pub fn escape_letter(b: u8) -> EscapeLetter
+#[tactic(auto, unfolding(crate::specs::Escape::letter_of))]
+pub fn escape_letter(b: u8) -> Option<u8>
     ensures { result ≡ letter_of b }
 {
     match b {
-        b'\t' => EscapeLetter::Letter(b't'),
-        b'\n' => EscapeLetter::Letter(b'n'),
-        b'\r' => EscapeLetter::Letter(b'r'),
-        b'\\' => EscapeLetter::Letter(b'\\'),
-        b'\'' => EscapeLetter::Letter(b'\''),
-        b'"' => EscapeLetter::Letter(b'"'),
-        _ => EscapeLetter::None,
+        b'\t' => Some(b't'),
+        b'\n' => Some(b'n'),
+        b'\r' => Some(b'r'),
+        b'\\' => Some(b'\\'),
+        b'\'' => Some(b'\''),
+        b'"' => Some(b'"'),
+        _ => None,
     }
 }
 
 // What stands for a byte between quotation marks.
-#[derive(Clone, Copy)]
+#[derive(Clone, Copy, Debug, PartialEq, Eq)]
 pub enum Escape {
     // The byte itself.
     Bare,
@@ -56,6 +48,7 @@ pub enum Escape {
 }
 
 // How a byte is written between quotation marks.
+#[tactic(auto, using(crate::proofs::Letters::by_letter_lem))]
 pub fn escape_of(b: u8) -> Escape
     ensures { result ≡ escape_of b }
 {
@@ -63,23 +56,22 @@ pub fn escape_of(b: u8) -> Escape
         return Escape::Bare;
     }
     match escape_letter(b) {
-        EscapeLetter::Letter(letter) => Escape::Backslash(letter),
-        EscapeLetter::None => Escape::Hexadecimal,
+        Some(letter) => Escape::Backslash(letter),
+        None => Escape::Hexadecimal,
     }
 }
 
 // Whether a byte is written as a backslash and a letter.
+#[tactic(auto, using(crate::proofs::Letters::by_letter_lem))]
 pub fn is_backslash_escaped(b: u8) -> bool
     ensures { result ≡ is_letter (escape_of b) }
 {
-    match escape_letter(b) {
-        EscapeLetter::Letter(_) => true,
-        EscapeLetter::None => false,
-    }
+    escape_letter(b).is_some()
 }
 
 // Whether a byte is not written as itself. Most bytes are above the apostrophe, where the backslash
 // alone is escaped.
+#[tactic(auto, using(crate::proofs::Letters::by_letter_lem, crate::proofs::Letters::high_escaped))]
 pub fn is_escaped(b: u8) -> bool
     ensures { result ≡ is_escaped (escape_of b) }
 {

@@ -5,7 +5,7 @@ ghost use Rattle.formatting.specs.declared.flags.NumberFormatting.TheVariants.{D
 ghost use Rattle.formatting.specs.declared.flags.HexFormatting.TheVariants.{Upper, Lower};
 
 // How numbers are written in debug form.
-#[derive(Clone, Copy)]
+#[derive(Clone, Copy, Debug, PartialEq, Eq)]
 pub enum NumberFormatting {
     Decimal,
     Hexadecimal,
@@ -13,13 +13,13 @@ pub enum NumberFormatting {
 }
 
 // The case of the hexadecimal digits above 9.
-#[derive(Clone, Copy)]
+#[derive(Clone, Copy, Debug, PartialEq, Eq)]
 pub enum HexFormatting {
     Upper,
     Lower,
 }
 
-#[derive(Clone, Copy)]
+#[derive(Clone, Copy, Debug, PartialEq, Eq)]
 pub struct FormattingFlags {
     pub num_fmt: NumberFormatting,
     pub hex_fmt: HexFormatting,
@@ -46,13 +46,7 @@ impl FormattingFlags {
     pub fn set_num_fmt(mut self, num_fmt: NumberFormatting) -> Self
         ensures { result ≡ with_num_fmt self num_fmt }
     {
-        let hex_fmt = self.hex_fmt;
-        let is_alternate = self.is_alternate;
-        self = Self {
-            num_fmt,
-            hex_fmt,
-            is_alternate,
-        };
+        self.num_fmt = num_fmt;
         self
     }
 
@@ -60,7 +54,7 @@ impl FormattingFlags {
     pub fn set_decimal(mut self) -> Self
         ensures { result ≡ with_num_fmt self Decimal }
     {
-        self = self.set_num_fmt(NumberFormatting::Decimal);
+        self.num_fmt = NumberFormatting::Decimal;
         self
     }
 
@@ -68,12 +62,8 @@ impl FormattingFlags {
     pub fn set_hexadecimal(mut self) -> Self
         ensures { result ≡ with_hex self Upper }
     {
-        let is_alternate = self.is_alternate;
-        self = Self {
-            num_fmt: NumberFormatting::Hexadecimal,
-            hex_fmt: HexFormatting::Upper,
-            is_alternate,
-        };
+        self.num_fmt = NumberFormatting::Hexadecimal;
+        self.hex_fmt = HexFormatting::Upper;
         self
     }
 
@@ -81,12 +71,8 @@ impl FormattingFlags {
     pub fn set_lower_hexadecimal(mut self) -> Self
         ensures { result ≡ with_hex self Lower }
     {
-        let is_alternate = self.is_alternate;
-        self = Self {
-            num_fmt: NumberFormatting::Hexadecimal,
-            hex_fmt: HexFormatting::Lower,
-            is_alternate,
-        };
+        self.num_fmt = NumberFormatting::Hexadecimal;
+        self.hex_fmt = HexFormatting::Lower;
         self
     }
 
@@ -94,7 +80,7 @@ impl FormattingFlags {
     pub fn set_binary(mut self) -> Self
         ensures { result ≡ with_num_fmt self Binary }
     {
-        self = self.set_num_fmt(NumberFormatting::Binary);
+        self.num_fmt = NumberFormatting::Binary;
         self
     }
 
@@ -125,5 +111,13 @@ impl FormattingFlags {
         ensures { result ≡ self.is_alternate }
     {
         self.is_alternate
+    }
+}
+
+impl Default for FormattingFlags {
+    ghost is_default = { λ flags. flags ≡ default_flags };
+
+    fn default() -> Self {
+        Self::DEFAULT
     }
 }

@@ -1,46 +1,34 @@
 // Flags as a number, for what holds them in a word.
 ghost use Rattle.std.specs.Prelude.{◌≡◌, ◌<◌, eqb};
-ghost use Rattle.formatting.specs.FlagsAsNumber.{num_fmt_of, hex_fmt_of, flags_of};
+ghost use Rattle.formatting.specs.FlagsAsNumber.{flags_of, checked_flags};
 
 use crate::flags::{FormattingFlags, HexFormatting, NumberFormatting};
 
-fn num_fmt_of(n: u64) -> NumberFormatting
-    ensures { result ≡ num_fmt_of n }
-{
-    if n == 0 {
-        return NumberFormatting::Decimal;
-    }
-    if n == 1 {
-        return NumberFormatting::Hexadecimal;
-    }
-    NumberFormatting::Binary
-}
+// A number that is no flags.
+#[derive(Clone, Copy, Debug, PartialEq, Eq)]
+pub struct NotFlags(pub u64);
 
-fn hex_fmt_of(n: u64) -> HexFormatting
-    ensures { result ≡ hex_fmt_of n }
-{
-    if n == 0 {
-        return HexFormatting::Upper;
-    }
-    HexFormatting::Lower
-}
+// The number of the flags.
+impl From<FormattingFlags> for u64 {
+    ghost from_gives = { λ flags n. (n < 12) × (flags_of n ≡ flags) };
 
-fn num_fmt_number(b: NumberFormatting) -> u64
-    ensures { (result < 3) × (num_fmt_of result ≡ b) }
-{
-    match b {
-        NumberFormatting::Decimal => 0,
-        NumberFormatting::Hexadecimal => 1,
-        NumberFormatting::Binary => 2,
+    fn from(flags: FormattingFlags) -> u64 {
+        4 * (flags.num_fmt as u64) + 2 * (flags.hex_fmt as u64) + u64::from(flags.is_alternate)
     }
 }
 
-fn hex_fmt_number(h: HexFormatting) -> u64
-    ensures { (result < 2) × (hex_fmt_of result ≡ h) }
-{
-    match h {
-        HexFormatting::Upper => 0,
-        HexFormatting::Lower => 1,
+// The flags that a number below twelve is.
+impl TryFrom<u64> for FormattingFlags {
+    type Error = NotFlags;
+
+    ghost try_from_gives = { λ n flags. flags ≡ checked_flags n };
+
+    fn try_from(n: u64) -> Result<Self, NotFlags> {
+        if n < 12 {
+            Ok(flags_of(n))
+        } else {
+            Err(NotFlags(n))
+        }
     }
 }
 
@@ -48,10 +36,7 @@ fn hex_fmt_number(h: HexFormatting) -> u64
 pub fn bit(b: bool) -> u64
     ensures { (result < 2) × (eqb result 1 ≡ b) }
 {
-    if b {
-        return 1;
-    }
-    0
+    u64::from(b)
 }
 
 // The flags that a number is.
@@ -59,8 +44,16 @@ pub fn flags_of(n: u64) -> FormattingFlags
     ensures { result ≡ flags_of n }
 {
     FormattingFlags {
-        num_fmt: num_fmt_of(n / 4),
-        hex_fmt: hex_fmt_of(n / 2 % 2),
+        num_fmt: match n / 4 {
+            0 => NumberFormatting::Decimal,
+            1 => NumberFormatting::Hexadecimal,
+            _ => NumberFormatting::Binary,
+        },
+        hex_fmt: if n / 2 % 2 == 0 {
+            HexFormatting::Upper
+        } else {
+            HexFormatting::Lower
+        },
         is_alternate: n % 2 == 1,
     }
 }
@@ -69,10 +62,5 @@ pub fn flags_of(n: u64) -> FormattingFlags
 pub fn flags_number(f: FormattingFlags) -> u64
     ensures { (result < 12) × (flags_of result ≡ f) }
 {
-    let num_fmt = f.num_fmt;
-    let hex_fmt = f.hex_fmt;
-    let a = num_fmt_number(num_fmt);
-    let b = hex_fmt_number(hex_fmt);
-    let d = bit(f.is_alternate);
-    4 * a + 2 * b + d
+    u64::from(f)
 }

@@ -6,7 +6,7 @@ mod flags;
 mod flags_as_number;
 
 pub use escaping::{
-    Escape, EscapeLetter, escape_letter, escape_of, hex_as_ascii, is_backslash_escaped, is_escaped,
+    Escape, escape_letter, escape_of, hex_as_ascii, is_backslash_escaped, is_escaped,
 };
 pub use flags::{FormattingFlags, HexFormatting, NumberFormatting};
-pub use flags_as_number::{bit, flags_number, flags_of};
+pub use flags_as_number::{NotFlags, bit, flags_number, flags_of};

@@ -1,13 +1,13 @@
 // Escapes.
 use crate::{put_bytes, put_template};
 use fields::{Number, number};
-use formatting::{EscapeLetter, bit, escape_letter, is_backslash_escaped, is_escaped};
+use formatting::{bit, escape_letter, is_backslash_escaped, is_escaped};
 
 // The letter of a byte by its code, or `none`.
-fn put_letter(letter: EscapeLetter, out: &mut [u8; 8192], at: usize) -> usize {
+fn put_letter(letter: Option<u8>, out: &mut [u8; 8192], at: usize) -> usize {
     match letter {
-        EscapeLetter::Letter(code) => put_template(out, at, b"%", code as u64, 0),
-        EscapeLetter::None => put_bytes(out, at, b"none"),
+        Some(code) => put_template(out, at, b"%", code as u64, 0),
+        None => put_bytes(out, at, b"none"),
     }
 }
 

@@ -53,18 +53,13 @@ pub(crate) fn put_template(
     later: u64,
 ) -> usize {
     let mut to = at;
-    let mut number = first;
-    let mut start = 0;
-    while start < text.len() {
-        let rest = &text[start..];
-        let n = index_of(rest, b'%');
-        to = put(out, to, slice_up_to_len(rest, n)).at;
-        if n == rest.len() {
-            return to;
-        }
-        to = write_display(out, to, number).at;
-        number = later;
-        start = start + n + 1;
+    for (i, piece) in text.split(|b| *b == b'%').enumerate() {
+        to = match i {
+            0 => to,
+            1 => write_display(out, to, first).at,
+            _ => write_display(out, to, later).at,
+        };
+        to = put(out, to, piece).at;
     }
     to
 }

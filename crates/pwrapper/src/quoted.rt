@@ -108,6 +108,7 @@ fn costs(s: &[u8], start: usize, end: usize) -> u8
 }
 
 // What the escape of b adds to the byte.
+#[tactic(auto, using(formatting::proofs::Letters::by_letter_lem), unfolding(formatting::specs::Escape::letter_of))]
 fn cost_of(b: u8) -> u8
     ensures { (result ≤ 3) × (length (escape_text (escape_of b) b) ≡ result + 1) }
 {

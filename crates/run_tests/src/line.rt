@@ -138,12 +138,8 @@ pub(crate) fn read_run(calls: &[u8], words: &mut [u64], pool: &mut [u8]) -> Run 
         text: 0,
         is_run: true,
     };
-    let mut rest = calls;
-    while 0 < rest.len() {
-        let call = &rest[1..];
-        let n = index_of(call, b';');
-        run = read_call(&call[0..n], run, words, pool);
-        rest = &call[n..];
+    for call in calls.split(|b| *b == b';').skip(1) {
+        run = read_call(call, run, words, pool);
     }
     run
 }

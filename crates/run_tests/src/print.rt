@@ -91,15 +91,13 @@ pub(crate) fn put_calls(
     let mut head = Head::new(WriterBackend::writing(1), settings);
     let mut total = from;
     let mut end = at;
-    let mut rest = calls;
-    while 5 <= rest.len() {
-        let words = [rest[0], rest[1], rest[2], rest[3], rest[4]];
+    for words in calls.chunks_exact(5) {
+        let words = [words[0], words[1], words[2], words[3], words[4]];
         let r = count_call(total, head, &mut stack, words, text);
         end = put_counted_call(out, end, r);
         let step = r.step;
         head = step.head;
         total = r.total;
-        rest = &rest[5..];
     }
     put_open(out, end, head)
 }
@@ -189,16 +187,11 @@ fn put_prefixes(
     text: &[u8],
 ) -> usize {
     let mut end = at;
-    let mut left = calls.len();
-    loop {
-        let n = calls.len() - left;
-        let count = put_next(out, end, n / 5, b' ');
+    for n in 0..=calls.len() / 5 {
+        let count = put_next(out, end, n, b' ');
         let head = write_ascii(out, count, b"calls:");
-        end = put_both(out, head.at, settings, settings, from, &calls[0..n], text);
-        if left < 5 {
-            break;
-        }
-        left -= 5;
+        let first = &calls[..5 * n];
+        end = put_both(out, head.at, settings, settings, from, first, text);
     }
     end
 }
@@ -229,13 +222,10 @@ fn put_sizes(
     text: &[u8],
 ) -> usize {
     let mut end = at;
-    let mut n: u8 = 0;
-    while n < most {
+    for size in 0..usize::from(most) {
         let mut dots = [b'.'; 256];
-        let size = n as usize;
         let head = put_next(out, end, size, b':');
         end = put_written(out, head, settings, &mut dots[0..size], 0, calls, text);
-        n += 1;
     }
     let mut four = [b'.'; 4];
     let past = write_ascii(out, end, b" 4 at 5:");

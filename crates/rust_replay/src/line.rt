@@ -12,25 +12,20 @@ use utils::slice_up_to_len;
 // nothing where one of them is of another form.
 fn decimals<'a>(line: &'a [u8], words: &mut [u64]) -> &'a [u8] {
     let mut rest = line;
-    let mut i = 0;
-    while i < words.len() {
+    for word in words {
         let Number::Is(n) = number(first_field(rest), u64::MAX) else {
-            return &line[0..0];
+            return &[];
         };
-        words[i] = n;
-        let tail = later_fields(rest);
-        rest = tail;
-        i += 1;
+        *word = n;
+        rest = later_fields(rest);
     }
     rest
 }
 
 // Gives a buffer the content that it has before a write.
 fn fill(buf: &mut [u8]) {
-    let mut i = 0;
-    while i < buf.len() {
-        buf[i] = ((i % 256 * 37 + 91) % 256) as u8;
-        i += 1;
+    for (i, b) in buf.iter_mut().enumerate() {
+        *b = ((i % 256 * 37 + 91) % 256) as u8;
     }
 }
 

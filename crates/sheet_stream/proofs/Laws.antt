@@ -1,15 +1,15 @@
 -- Laws of a sheet's stages, and of what is printed behind what was printed.
 use mathlib.Core.Bool.{Bool, true, false, cond}
-use mathlib.Core.Path.{◌≡◌, refl, ap, sym, ◌∙◌}
+use mathlib.Core.Path.{◌≡◌, refl, ap, ◌∙◌}
 use mathlib.Core.List.{List, [], ◌∷◌, ◌++◌, append_assoc, append-nil}
 use mathlib.Core.Option.{Option, none, some}
-use Prim.Native.Nat.{ℕ, suc, ◌+◌, ◌-◌, ◌*◌, ◌^◌, ◌≤◌, ◌<◌}
+use Prim.Native.Nat.{ℕ, suc, ◌+◌, ◌-◌, ◌*◌, ◌^◌, ◌≤◌}
 use native.Mathlib.Numerals.{add-one}
 use native.Mathlib.Omega.{arith}
 use borrow.Author.Tests.{leb-true, eq-eqb, ne_eqb}
 use lib.Dec.{ltb, leb}
-use lib.ListN.{length, take, drop, set, replicate, length-append, length-take}
-use lib.Seq.{take-suc-set, append_snoc, take_at, length-take-le}
+use lib.ListN.{length, take, drop, replicate, length-append, length-take}
+use lib.Seq.{take_at, length-take-le}
 use Rattle.str_writer.specs.declared.piece.Written.{Written}
 use Rattle.str_writer.specs.Write.{Outcome, outcome, splice, put}
 use Rattle.fields.proofs.Cells.{put-fits}
@@ -31,18 +31,6 @@ use Rattle.sheet.specs.Printed.{printed_from}
 use Rattle.sheet_stream.specs.Left.{Stage, first, later, over, left, stage_of, Answers}
 use Rattle.sheet_stream.specs.declared.State.{State}
 use Rattle.sheet_stream.specs.Step.{Sized, Onward, stopped_of}
-
-pub zero-start : (b : List ℕ) (n : ℕ) → take 0 b ++ replicate (n - 0) 0 ≡ replicate n 0
-zero-start b n = let e : n - 0 ≡ n = omega arith in rw e
-
-pub zero-end : (b : List ℕ) (n i : ℕ) → i ≡ n → take i b ++ replicate (n - i) 0 ≡ replicate n 0 → take n b ≡ replicate n 0
-zero-end b n i q e = let z : n - i ≡ 0 = omega arith in sym (append-nil (take n b)) ∙ rw (z, q) at e
-
--- one zero more
-pub zero-next : (b : List ℕ) (n i : ℕ) → i < n → n ≤ length b → take i b ++ replicate (n - i) 0 ≡ replicate n 0 → take (i + 1) (set b i 0) ++ replicate (n - (i + 1)) 0 ≡ replicate n 0
-zero-next b n i h k e =
-    let m : n - i ≡ suc (n - (i + 1)) = omega arith in
-    rw (add-one i, take-suc-set b i 0 (omega arith), append_snoc (take i b) 0 (replicate (n - suc i) 0)) (rw (m, add-one i) at e)
 
 -- a text that fits is printed behind what was printed
 module _ (b : List ℕ) (at : ℕ) (t : List ℕ) (w : Written) (c : List ℕ) (e : outcome w c ≡ put b at t) (h : at + length t ≤ length b) where

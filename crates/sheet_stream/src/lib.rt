@@ -80,11 +80,7 @@ fn zero(buf: &mut [u8], n: usize)
     requires { n ≤ length buf.old }
     ensures { take n buf.new ≡ replicate n 0 }
 {
-    let mut i = 0;
-    while i < n {
-        buf[i] = 0;
-        i += 1;
-    }
+    buf[..n].fill(0);
 }
 
 // Line 1 begins the runs, over bytes that are zero.

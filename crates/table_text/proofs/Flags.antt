@@ -4,6 +4,12 @@ use mathlib.Core.Path.{◌≡◌, refl}
 use mathlib.Core.List.{List, []}
 use Prim.Native.Nat.{ℕ, zero, suc, ◌≤◌, ◌<◌}
 use native.Mathlib.Omega.{arith}
+use Rattle.std.specs.Prelude.{Result, Ok, Err}
+use mathlib.Core.Logic.{dite}
+use native.Mathlib.Decide.{dec_lt}
+use Rattle.formatting.specs.FlagsAsNumber.{flags_of, checked_flags}
+use Rattle.formatting.specs.declared.flags.FormattingFlags.{FormattingFlags}
+use Rattle.formatting.specs.declared.flags_as_number.NotFlags.{NotFlags}
 use lib.Dec.{ltb}
 use lib.ListN.{length}
 use borrow.Author.Tests.{lt-ltb, le-ltb}
@@ -19,6 +25,19 @@ hold-done zero = refl
 hold-done (suc a) = refl
 
 -- flags below 12
+-- the number of flags that were taken, and one that was refused
+pub taken : (n : ℕ) (f : FormattingFlags) → Ok f ≡ checked_flags n → (n < 12) × (f ≡ flags_of n)
+taken n f e = dite (dec_lt n 12) (λ h. (h, same_Ok (rw (lt-ltb n 12 h) at e))) (λ h. absurd (ok_err (rw (le-ltb n 12 (omega arith)) at e)))
+  where
+    same_Ok : {A B : Type 0} {x y : A} → ◌≡◌ {A = Result A B} (Ok x) (Ok y) → x ≡ y
+    same_Ok h = cc
+
+    ok_err : {A B : Type 0} {x : A} {y : B} → ◌≡◌ {A = Result A B} (Ok x) (Err y) → ⊥
+    ok_err h = cc
+
+pub refused : (n : ℕ) (r : Result FormattingFlags NotFlags) → r ≡ checked_flags n → ((f : FormattingFlags) → r ≡ Ok f → ⊥) → 11 < n
+refused n r e k = dite (dec_lt n 12) (λ h. absurd (k (flags_of n) (rw (e, lt-ltb n 12 h) refl))) (λ h. omega arith)
+
 module _ (n : ℕ) (h : n ≤ 11) (m : Mode) (b w t : List ℕ) where
   below : ltb n 12 ≡ true
   below = lt-ltb n 12 (omega arith)

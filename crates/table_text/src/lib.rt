@@ -15,7 +15,7 @@ ghost use Rattle.table_text.specs.Exported.{settings_by, count_end, count_answer
 
 use calls::Settings;
 use error::Answer;
-use formatting::flags_of;
+use formatting::FormattingFlags;
 use run::{Ran, count_run_each, write_run_each};
 
 // The end of a run of which nothing is played.
@@ -36,13 +36,10 @@ fn count(flags: u64, calls: &[u64], text: &[u8], answers: &mut [u8]) -> Ran
     ensures answers_after { answers.new ≡ stored answers.old (count_answers flags calls.now text.now) }
     ensures count_agrees { flags < 12 → CountAgrees (settings_by flags) (decode calls.now text.now) result.first result.number }
 {
-    if 11 < flags {
+    let Ok(flags) = FormattingFlags::try_from(flags) else {
         return unplayed(Answer::WrongCall, 0);
-    }
-    let settings = Settings {
-        flags: flags_of(flags),
     };
-    count_run_each(settings, calls, text, answers)
+    count_run_each(Settings { flags }, calls, text, answers)
 }
 
 // A run written, with each call's answer as far as there is room.
@@ -62,16 +59,13 @@ fn write(
         (decode calls.now text.now) buf.old at result.first result.number buf.new }
     ensures only_between { OnlyBetween buf.old at buf.new result.number }
 {
-    if 11 < flags {
+    let Ok(flags) = FormattingFlags::try_from(flags) else {
         if buf.len() < at {
             return unplayed(Answer::BadCursor, at);
         }
         return unplayed(Answer::WrongCall, at);
-    }
-    let settings = Settings {
-        flags: flags_of(flags),
     };
-    write_run_each(settings, buf, at, calls, text, answers)
+    write_run_each(Settings { flags }, buf, at, calls, text, answers)
 }
 
 // Counts a run: its total is left in total.

@@ -1,3 +1,4 @@
 pub mod Grammar
 pub mod Ranges
 pub mod Rfc3629
+pub mod StdText

@@ -1,5 +1,5 @@
 -- How what has to follow a text changes with one octet more.
-use mathlib.Core.Bool.{true, false}
+use mathlib.Core.Bool.{false}
 use mathlib.Core.Option.{none, some}
 use mathlib.Core.List.{List, [], ◌∷◌}
 use mathlib.Core.Path.{◌≡◌, refl}
@@ -8,8 +8,8 @@ use native.Mathlib.Numerals.{sub-one}
 use native.Mathlib.Omega.{arith}
 use borrow.Author.Tests.{le-leb}
 use lib.Dec.{eqb, eqb-suc-zero}
-use lib.ListN.{length, get_or, replicate}
-use Rattle.utf8.specs.Utf8.{Octets, tail, follow, continues, well_formed}
+use lib.ListN.{replicate}
+use Rattle.utf8.specs.Utf8.{Octets, tail, follow, continues}
 use Rattle.utf8.specs.Expected.{ranges_of}
 use Rattle.utf8.proofs.Grammar.{First, follows, outside, broken}
 
@@ -48,9 +48,3 @@ pub ends : (n l h : ℕ) → eqb n 0 ≡ continues [] (some (ranges_of n l h))
 unfolding continues
 ends zero l h = refl
 ends (suc n) l h = eqb-suc-zero n
-
--- text of octets below 80
-pub plain : (s : List ℕ) → ((k : ℕ) → k < length s → get_or s k 0 ≤ 0x7F) → well_formed s ≡ true
-unfolding continues follow
-plain [] h = refl
-plain (a ∷ s) h = rw (le-leb a 0x7F (h 0 (omega arith))) (plain s (λ k p. h (suc k) (omega (arith, p))))

@@ -1,10 +1,12 @@
 // Ranges and boundaries (utils.rs, __hidden_utils.rs).
 #![tactic(auto)]
 
-ghost use Rattle.std.specs.Prelude.{◌≡◌, min, take};
+ghost use Rattle.std.specs.Prelude.{◌≡◌, take};
 ghost use Rattle.utils.specs.Text.{saturated, is_boundary};
 
-#[derive(Clone, Copy)]
+// The places from start to before end, as std's ops::Range has them, but Copy: the calls of a run
+// hold it and are copied.
+#[derive(Clone, Copy, Debug, PartialEq, Eq)]
 pub struct Range {
     pub start: usize,
     pub end: usize,
@@ -14,8 +16,8 @@ pub struct Range {
 pub fn saturate_range(s: &[u8], range: Range) -> Range
     ensures { result ≡ saturated s.now range }
 {
-    let end = min_usize(range.end, s.len());
-    let start = min_usize(range.start, end);
+    let end = range.end.min(s.len());
+    let start = range.start.min(end);
     Range { start, end }
 }
 
@@ -23,25 +25,15 @@ pub fn saturate_range(s: &[u8], range: Range) -> Range
 pub fn slice_up_to_len(slice: &[u8], len: usize) -> &[u8]
     ensures { result.now ≡ take len slice.now }
 {
-    if len > slice.len() {
-        return slice;
-    }
-    &slice[..len]
+    slice.get(..len).unwrap_or(slice)
 }
 
 // Whether index is a boundary of s. An index past the end is none.
 pub fn is_char_boundary(s: &[u8], index: usize) -> bool
     ensures { result ≡ is_boundary s.now index }
 {
-    if index < s.len() {
-        let b = s[index];
-        return b < 0x80 || 0xBF < b;
+    match s.get(index) {
+        Some(b) => *b < 0x80 || 0xBF < *b,
+        None => index == s.len(),
     }
-    index == s.len()
-}
-
-fn min_usize(l: usize, r: usize) -> usize
-    ensures { result ≡ min l r }
-{
-    if l < r { l } else { r }
 }
