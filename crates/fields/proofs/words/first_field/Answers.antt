@@ -1,11 +1,8 @@
-use mathlib.Core.Path.{ap, sym}
-use Prim.Native.Nat.{ℕ}
-use lib.ListN.{take}
-use lib.Seq.{length-take-le}
+use Rattle.fields.proofs.Splitting.{first-some, first-none}
 use Rattle.fields.proofs.words.first_field.Goals as goal
 
-pub slice_bounds-result-end : goal.slice_bounds-result-end
-slice_bounds-result-end c = sym (length-take-le _ _ c.index_of-n.ensures.1)
+pub returns-in-Some : goal.returns-in-Some
+returns-in-Some c = first-some c.args.s.now _ c.first_comma.ensures.place c.in-Some.comma c.in-Some.is
 
-pub returns : goal.returns
-returns c = ap (λ (n : ℕ). take n c.before.args.s.now) c.index_of-n.ensures.0
+pub returns-in-None : goal.returns-in-None
+returns-in-None c = first-none c.args.s.now _ c.first_comma.ensures.place c.in-None.is

@@ -1,8 +1,8 @@
 use Rattle.fields.proofs.Splitting.{later-some, later-none}
 use Rattle.fields.proofs.words.later_fields.Goals as goal
 
-pub returns-then-n-s : goal.returns-then-n-s
-returns-then-n-s c = later-none c.args.s.now _ c.index_of-n.ensures.0 c.if-n-s.true
+pub returns-in-Some : goal.returns-in-Some
+returns-in-Some c = later-some c.args.s.now _ c.first_comma.ensures.place c.in-Some.comma c.in-Some.is
 
-pub returns : goal.returns
-returns c = later-some c.args.s.now _ c.index_of-n.ensures.0
+pub returns-in-None : goal.returns-in-None
+returns-in-None c = later-none c.args.s.now _ c.first_comma.ensures.place c.in-None.is
