@@ -8,4 +8,4 @@ mod words;
 
 pub use decimal::{number, put_number};
 pub use hex::{from_hex, put_hex};
-pub use words::{first_field, later_fields, place_of};
+pub use words::{first_field, later_fields, place_of, split_field};
