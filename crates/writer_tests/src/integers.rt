@@ -1,11 +1,8 @@
 // Writes of integers. The place k of a name is that of its type among u8, u16, u32, u64, i8, i16,
 // i32 and i64.
-use crate::texts::Played;
-use fields::{Number, first_field, later_fields, number, place_of, same};
-use formatting::{FormattingFlags, flags_of};
-use lines::part;
+use fields::{first_field, later_fields, number, place_of};
+use formatting::{FormattingFlags, HexFormatting, NumberFormatting};
 use str_writer::Written;
-use utils::slice_up_to_len;
 
 // A value of its type.
 #[derive(Clone, Copy)]
@@ -18,13 +15,6 @@ pub enum Integer {
     I16(i16),
     I32(i32),
     I64(i64),
-}
-
-// A field as a value, or a field of another form.
-#[derive(Clone, Copy)]
-pub enum Value {
-    Is(Integer),
-    Other,
 }
 
 // The display form.
@@ -98,57 +88,48 @@ fn negative(k: usize, n: u64) -> Integer {
 }
 
 // The value that a field is in decimal, if the type has it.
-fn value_of(k: usize, s: &[u8]) -> Value {
+fn value_of(k: usize, s: &[u8]) -> Option<Integer> {
     let greatest = [255, 65535, 4294967295, u64::MAX];
     let most = greatest[k % 4];
     if k < 4 {
-        return match number(s, most) {
-            Number::Is(n) => Value::Is(unsigned(k, n)),
-            Number::Other => Value::Other,
-        };
+        return Some(unsigned(k, number(s, most)?));
     }
-    if same(slice_up_to_len(s, 1), b"-") {
-        let Number::Is(n) = number(part(s, 1, s.len()), most - most / 2) else {
-            return Value::Other;
-        };
-        if n == 0 {
-            return Value::Other;
+    match s {
+        [b'-', digits @ ..] => {
+            let n = number(digits, most - most / 2)?;
+            Some(negative(k, n.checked_sub(1)?))
         }
-        return Value::Is(negative(k, n - 1));
-    }
-    match number(s, most / 2) {
-        Number::Is(n) => Value::Is(positive(k, n)),
-        Number::Other => Value::Other,
+        _ => Some(positive(k, number(s, most / 2)?)),
     }
 }
 
 // `VALUE`.
-pub(crate) fn display_call(k: usize, arguments: &[u8], buf: &mut [u8], at: usize) -> Played {
-    let Value::Is(x) = value_of(k, arguments) else {
-        return Played::Other;
-    };
-    Played::Gave(display(x, buf, at))
+pub(crate) fn display_call(
+    k: usize,
+    arguments: &[u8],
+    buf: &mut [u8],
+    at: usize,
+) -> Option<Written> {
+    let x = value_of(k, arguments)?;
+    Some(display(x, buf, at))
 }
 
 // `VALUE,dec|hex|bin,upper|lower,plain|alt`.
-pub(crate) fn debug_call(k: usize, arguments: &[u8], buf: &mut [u8], at: usize) -> Played {
-    let Value::Is(x) = value_of(k, first_field(arguments)) else {
-        return Played::Other;
-    };
+pub(crate) fn debug_call(k: usize, arguments: &[u8], buf: &mut [u8], at: usize) -> Option<Written> {
+    let x = value_of(k, first_field(arguments))?;
     let words = later_fields(arguments);
-    let base = place_of(first_field(words), b"dec,hex,bin");
     let others = later_fields(words);
-    let digits = place_of(first_field(others), b"upper,lower");
-    let layout = place_of(later_fields(others), b"plain,alt");
-    if 2 < base {
-        return Played::Other;
-    }
-    if 1 < digits {
-        return Played::Other;
-    }
-    if 1 < layout {
-        return Played::Other;
-    }
-    let n = 4 * base + 2 * digits + layout;
-    Played::Gave(debug(x, flags_of(n as u64), buf, at))
+    let flags = FormattingFlags {
+        num_fmt: match place_of(first_field(words), b"dec,hex,bin")? {
+            0 => NumberFormatting::Decimal,
+            1 => NumberFormatting::Hexadecimal,
+            _ => NumberFormatting::Binary,
+        },
+        hex_fmt: match place_of(first_field(others), b"upper,lower")? {
+            0 => HexFormatting::Upper,
+            _ => HexFormatting::Lower,
+        },
+        is_alternate: place_of(later_fields(others), b"plain,alt")? == 1,
+    };
+    Some(debug(x, flags, buf, at))
 }
