@@ -1,43 +1,24 @@
 // Writes of integers. The place k of a name is twice that of its type among u8, u16, u32, u64, i8,
 // i16, i32 and i64, and one more for the debug form.
 use crate::texts::other;
-use fields::{Number, number, same};
+use fields::number;
 use formatter_by_value::{Formatter, FormatterStep};
-use lines::part;
-use utils::slice_up_to_len;
 
-// A value n, or -1 - n where it is below zero, or a field of another form.
-#[derive(Clone, Copy)]
-pub enum Value {
-    Is(bool, u64),
-    Other,
-}
-
-// A number as a value that is not below zero.
-fn not_negative(n: Number) -> Value {
-    match n {
-        Number::Is(n) => Value::Is(false, n),
-        Number::Other => Value::Other,
-    }
-}
-
-// The value that a field is in decimal, if the type at place t has it.
-fn value_of(t: usize, s: &[u8]) -> Value {
+// The value that a field is in decimal, if the type at place t has it: whether it is below zero, and
+// n, where it is n or -1 - n.
+fn value_of(t: usize, s: &[u8]) -> Option<(bool, u64)> {
     let greatest = [255, 65535, 4294967295, u64::MAX];
     let most = greatest[t % 4];
     if t < 4 {
-        return not_negative(number(s, most));
+        return Some((false, number(s, most)?));
     }
-    if same(slice_up_to_len(s, 1), b"-") {
-        let Number::Is(n) = number(part(s, 1, s.len()), most - most / 2) else {
-            return Value::Other;
-        };
-        if n == 0 {
-            return Value::Other;
+    match s {
+        [b'-', digits @ ..] => {
+            let n = number(digits, most - most / 2)?;
+            Some((true, n.checked_sub(1)?))
         }
-        return Value::Is(true, n - 1);
+        _ => Some((false, number(s, most / 2)?)),
     }
-    not_negative(number(s, most / 2))
 }
 
 // The value as one of its type. The type has it: each remainder is n.
@@ -125,7 +106,7 @@ pub(crate) fn integer_call(
     arguments: &[u8],
 ) -> FormatterStep {
     let t = k / 2;
-    let Value::Is(minus, n) = value_of(t, arguments) else {
+    let Some((minus, n)) = value_of(t, arguments) else {
         return other(fmt);
     };
     let is_debug = k % 2 == 1;
