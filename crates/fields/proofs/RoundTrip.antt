@@ -1,7 +1,6 @@
 -- What is read and what is printed are the same texts, of numbers and of bytes.
 use mathlib.Core.Bool.{Bool, true, false, cond, ◌&&◌, false≢true, and-eq-true_iff}
 use mathlib.Core.Logic.{dite}
-use mathlib.Core.Option.{none, some, none-ne-some, some-injective}
 use mathlib.Core.Path.{◌≡◌, refl, sym, ap, ◌∙◌}
 use mathlib.Core.List.{List, [], ◌∷◌, ◌++◌, append-nil}
 use Prim.Native.Nat.{ℕ, ◌+◌, ◌-◌, ◌*◌, ◌/◌, ◌%◌, ◌≤◌, ◌<◌}
@@ -14,6 +13,8 @@ use lib.ListN.{length, get_or, get_or-append}
 use lib.Seq.{append_snoc}
 use Rattle.formatting.specs.declared.flags.HexFormatting.TheVariants.{Upper}
 use Rattle.formatting.specs.Hex.{hex_digit}
+use Rattle.std.specs.Prelude.{Some, None}
+use Rattle.std.proofs.lemmas.Option.{none-some, same_Some}
 use Rattle.pwrapper.specs.Digits.{dec_digit}
 use Rattle.pwrapper.specs.Number.{decimal}
 use Rattle.pwrapper.proofs.Digits.{by_digits, text-low, text-step, text_pos, text-one}
@@ -37,35 +38,35 @@ decimal-more n d h k =
     decimal_step (n * 10 + d) (omega arith) ∙ rw (q, r)
 
 -- a byte that is read is a digit
-digit : (a b : ℕ) (s : List ℕ) (n : ℕ) → read_from a (b ∷ s) ≡ some n → (48 ≤ b) × (b ≤ 57) × (read_from (a * 10 + (b - 48)) s ≡ some n)
+digit : (a b : ℕ) (s : List ℕ) (n : ℕ) → read_from a (b ∷ s) ≡ Some n → (48 ≤ b) × (b ≤ 57) × (read_from (a * 10 + (b - 48)) s ≡ Some n)
 unfolding read_from
 digit a b s n e = by_test (is_digit b) refl e
   where
-    by_test : (t : Bool) → is_digit b ≡ t → cond t (read_from (a * 10 + (b - 48)) s) none ≡ some n → (48 ≤ b) × (b ≤ 57) × (read_from (a * 10 + (b - 48)) s ≡ some n)
+    by_test : (t : Bool) → is_digit b ≡ t → cond t (read_from (a * 10 + (b - 48)) s) None ≡ Some n → (48 ≤ b) × (b ≤ 57) × (read_from (a * 10 + (b - 48)) s ≡ Some n)
     by_test true d e = let p = (and-eq-true_iff (leb 48 b) (leb b 57)).0 d in (leb-true 48 b p.0, leb-true b 57 p.1, e)
-    by_test false d e = absurd (none-ne-some n e)
+    by_test false d e = absurd (none-some n e)
 
 -- the digits of a number above 0, and then what is read on
-grows : (s : List ℕ) (a n : ℕ) → 0 < a → read_from a s ≡ some n → decimal a ++ s ≡ decimal n
+grows : (s : List ℕ) (a n : ℕ) → 0 < a → read_from a s ≡ Some n → decimal a ++ s ≡ decimal n
 unfolding read_from
-grows [] a n h e = rw (some-injective a n e, append-nil)
+grows [] a n h e = rw (same_Some a n e, append-nil)
 grows (b ∷ s) a n h e =
     let p = digit a b s n e in
     let v : 48 + (b - 48) ≡ b = omega arith in
     let d : decimal (a * 10 + (b - 48)) ≡ decimal a ++ (b ∷ []) = decimal-more a (b - 48) h (omega arith) ∙ rw v in
     sym (append_snoc (decimal a) b s) ∙ (rw d at (grows s (a * 10 + (b - 48)) n (omega arith) p.2))
 
-read_shortest : (s : List ℕ) (n : ℕ) → decimal_of s ≡ some n → s ≡ decimal n
+read_shortest : (s : List ℕ) (n : ℕ) → decimal_of s ≡ Some n → s ≡ decimal n
 unfolding read_from is_shortest
-read_shortest [] n e = absurd (none-ne-some n e)
+read_shortest [] n e = absurd (none-some n e)
 read_shortest (b ∷ []) n e =
     let p = digit 0 b [] n e in
-    let v = some-injective (0 * 10 + (b - 48)) n p.2 in
+    let v = same_Some (0 * 10 + (b - 48)) n p.2 in
     let w : 48 + n ≡ b = omega arith in
     rw (decimal-low n (omega arith), w)
 read_shortest (b ∷ d ∷ s) n e =
     dite (ℕ_discrete b 48)
-    (λ z. absurd (none-ne-some n (sym (number-zero (b ∷ d ∷ s) (omega arith) z) ∙ e)))
+    (λ z. absurd (none-some n (sym (number-zero (b ∷ d ∷ s) (omega arith) z) ∙ e)))
     (λ z.
     let p = digit 0 b (d ∷ s) n (sym (number_digits (b ∷ d ∷ s) (omega arith) (λ h. z)) ∙ e) in
     let a = 0 * 10 + (b - 48) in
@@ -73,21 +74,21 @@ read_shortest (b ∷ d ∷ s) n e =
     let w : decimal a ≡ b ∷ [] = decimal-low a (omega arith) ∙ rw v in
     rw w at (grows (d ∷ s) a n (omega arith) p.2))
 
-read-snoc : (s : List ℕ) (a k d : ℕ) → d < 10 → read_from a s ≡ some k → read_from a (s ++ ((48 + d) ∷ [])) ≡ some (k * 10 + d)
+read-snoc : (s : List ℕ) (a k d : ℕ) → d < 10 → read_from a s ≡ Some k → read_from a (s ++ ((48 + d) ∷ [])) ≡ Some (k * 10 + d)
 unfolding read_from
 read-snoc [] a k d h e =
     let v : 48 + d - 48 ≡ d = omega arith in
-    rw (le-leb 48 (48 + d) (omega arith), le-leb (48 + d) 57 (omega arith), v, some-injective a k e)
+    rw (le-leb 48 (48 + d) (omega arith), le-leb (48 + d) 57 (omega arith), v, same_Some a k e)
 read-snoc (b ∷ s) a k d h e =
     let p = digit a b s k e in
     rw (le-leb 48 b p.0, le-leb b 57 p.1) (read-snoc s (a * 10 + (b - 48)) k d h p.2)
 
 -- read back, the digits give the number
-read-decimal : (n : ℕ) → read_from 0 (decimal n) ≡ some n
+read-decimal : (n : ℕ) → read_from 0 (decimal n) ≡ Some n
 unfolding read_from
-read-decimal = by_digits 10 (lit≤ tt) (λ (n : ℕ). read_from 0 (decimal n) ≡ some n)
-    (λ n h. let v : 0 * 10 + n ≡ n = omega arith in rw (decimal-low n h) (read-snoc [] 0 0 n h refl ∙ ap some v))
-    (λ n h e. rw (decimal_step n h) (read-snoc (decimal (n / 10)) 0 (n / 10) (n % 10) (mod-lt n (omega arith)) e ∙ ap some (div-add-mod' n 10)))
+read-decimal = by_digits 10 (lit≤ tt) (λ (n : ℕ). read_from 0 (decimal n) ≡ Some n)
+    (λ n h. let v : 0 * 10 + n ≡ n = omega arith in rw (decimal-low n h) (read-snoc [] 0 0 n h refl ∙ ap Some v))
+    (λ n h e. rw (decimal_step n h) (read-snoc (decimal (n / 10)) 0 (n / 10) (n % 10) (mod-lt n (omega arith)) e ∙ ap Some (div-add-mod' n 10)))
 
 -- only of 0 is the first digit `0`
 first-digit : (n : ℕ) → 0 < n → 48 < get_or (decimal n) 0 0
@@ -154,9 +155,9 @@ bytes_of_pairs (b ∷ t) e =
     let v : b / 16 * 16 + b % 16 ≡ b = div-add-mod' b 16 in
     (rw (x.0, y.0) r.0, rw (x.1, y.1, v, r.1))
 
-read_pairs : (s t : List ℕ) (i : Bool) → is_hex s ≡ i → cond i (some (hex_bytes s)) none ≡ some t → s ≡ hex_pairs t
-read_pairs s t true e o = sym (pairs_of_bytes s e) ∙ ap hex_pairs (some-injective (hex_bytes s) t o)
-read_pairs s t false e o = absurd (none-ne-some t o)
+read_pairs : (s t : List ℕ) (i : Bool) → is_hex s ≡ i → cond i (Some (hex_bytes s)) None ≡ Some t → s ≡ hex_pairs t
+read_pairs s t true e o = sym (pairs_of_bytes s e) ∙ ap hex_pairs (same_Some (hex_bytes s) t o)
+read_pairs s t false e o = absurd (none-some t o)
 
 pub hex_round_trip : HexRoundTrip
 hex_round_trip s t h =

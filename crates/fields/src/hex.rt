@@ -8,27 +8,11 @@ use error::Answer;
 use formatting::{HexFormatting, hex_as_ascii};
 use str_writer::Written;
 
-// How many bytes a field is, or a field of another form.
-#[derive(Clone, Copy)]
-pub enum HexBytes {
-    Are(usize),
-    NotHex,
-}
-
 // Whether b is an upper hexadecimal digit.
 fn is_hex_digit(b: u8) -> bool
     ensures { result ≡ is_hex_digit b }
 {
-    if b < b'0' {
-        return false;
-    }
-    if b <= b'9' {
-        return true;
-    }
-    if b < b'A' {
-        return false;
-    }
-    b <= b'F'
+    matches!(b, b'0'..=b'9' | b'A'..=b'F')
 }
 
 // The value of an upper hexadecimal digit.
@@ -36,27 +20,14 @@ fn hex_value(b: u8) -> u8
     requires { is_hex_digit b ≡ true }
     ensures { (result ≡ hex_value b) × (result < 16) }
 {
-    if b <= b'9' {
-        return b - b'0';
-    }
-    b - b'A' + 10
+    if b <= b'9' { b - b'0' } else { b - b'A' + 10 }
 }
 
 // Whether s is pairs of upper hexadecimal digits.
 fn is_hex(s: &[u8]) -> bool
     ensures { result ≡ is_hex s.now }
 {
-    let mut i = 0;
-    while 1 < s.len() - i {
-        if !is_hex_digit(s[i]) {
-            return false;
-        }
-        if !is_hex_digit(s[i + 1]) {
-            return false;
-        }
-        i += 2;
-    }
-    i == s.len()
+    s.len() % 2 == 0 && s.iter().all(|b| is_hex_digit(*b))
 }
 
 // Stores the bytes that the pairs of s are at the beginning of out.
@@ -64,29 +35,22 @@ fn fill(s: &[u8], out: &mut [u8])
     requires { (is_hex s.now ≡ true) × (length (hex_bytes s.now) ≤ length out.old) }
     ensures { out.new ≡ splice out.old 0 (hex_bytes s.now) }
 {
-    let mut i = 0;
-    while i < s.len() / 2 {
-        let high = hex_value(s[2 * i]);
-        let low = hex_value(s[2 * i + 1]);
-        out[i] = high * 16 + low;
-        i += 1;
+    for (i, pair) in s.chunks_exact(2).enumerate() {
+        out[i] = hex_value(pair[0]) * 16 + hex_value(pair[1]);
     }
 }
 
-// Reads the bytes of a field to the beginning of out; a field of another form, or of more bytes
-// than out has, leaves it as it is.
-pub fn from_hex(s: &[u8], out: &mut [u8]) -> HexBytes
+// Reads the bytes of a field to the beginning of out, and gives how many they are; a field of
+// another form, or of more bytes than out has, leaves it as it is.
+pub fn from_hex(s: &[u8], out: &mut [u8]) -> Option<usize>
     ensures { record { answer = result; bytes = out.new } ≡ read_hex out.old s.now }
 {
-    if !is_hex(s) {
-        return HexBytes::NotHex;
-    }
     let len = s.len() / 2;
-    if out.len() < len {
-        return HexBytes::NotHex;
+    if !is_hex(s) || out.len() < len {
+        return None;
     }
     fill(s, out);
-    HexBytes::Are(len)
+    Some(len)
 }
 
 // Lays the pairs of the bytes s into buf from at on.
@@ -94,13 +58,10 @@ fn lay_pairs(buf: &mut [u8], at: usize, s: &[u8])
     requires { at + length (hex_pairs s.now) ≤ length buf.old }
     ensures { buf.new ≡ splice buf.old at (hex_pairs s.now) }
 {
-    let mut i = 0;
-    while i < s.len() {
-        let b = s[i];
+    for (i, b) in s.iter().enumerate() {
         let to = at + 2 * i;
-        buf[to] = hex_as_ascii(b / 16, HexFormatting::Upper);
-        buf[to + 1] = hex_as_ascii(b, HexFormatting::Upper);
-        i += 1;
+        buf[to] = hex_as_ascii(*b / 16, HexFormatting::Upper);
+        buf[to + 1] = hex_as_ascii(*b, HexFormatting::Upper);
     }
 }
 

@@ -4,10 +4,8 @@
 
 mod decimal;
 mod hex;
-mod reading;
 mod words;
 
 pub use decimal::{number, put_number};
-pub use hex::{HexBytes, from_hex, put_hex};
-pub use reading::Number;
-pub use words::{first_field, index_of, later_fields, place_of, same};
+pub use hex::{from_hex, put_hex};
+pub use words::{first_field, later_fields, place_of, split_field};

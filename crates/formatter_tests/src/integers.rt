@@ -1,11 +1,9 @@
 // Writes of integers. The place k of a name is twice that of its type among u8, u16, u32, u64, i8,
 // i16, i32 and i64, and one more for the debug form.
 use crate::texts::other;
-use fields::{Number, number, same};
+use fields::number;
 use formatter_by_value::{Formatter, FormatterStep};
-use lines::part;
 use std::num::TryFromIntError;
-use utils::slice_up_to_len;
 use value_writes::{Form, IntegerValue};
 
 // A value in a form, if its type has it.
@@ -44,18 +42,15 @@ fn signed(fmt: Formatter, buf: &mut [u8], form: Form, t: usize, x: i64) -> Forma
     }
 }
 
-// The negative number whose absolute value a field is in decimal.
-fn negative(fmt: Formatter, buf: &mut [u8], form: Form, t: usize, s: &[u8]) -> FormatterStep {
-    let Number::Is(n) = number(s, u64::MAX) else {
-        return other(fmt);
-    };
-    if n == 0 {
-        return other(fmt);
+// The number that a field is in decimal, behind a minus or not, if an i64 has it.
+fn signed_number(s: &[u8]) -> Option<i64> {
+    match s {
+        [b'-', digits @ ..] => {
+            let n = number(digits, u64::MAX)?;
+            Some(!i64::try_from(n.checked_sub(1)?).ok()?)
+        }
+        _ => i64::try_from(number(s, u64::MAX)?).ok(),
     }
-    let Ok(x) = i64::try_from(n - 1) else {
-        return other(fmt);
-    };
-    signed(fmt, buf, form, t, !x)
 }
 
 // `VALUE`, a value of its type.
@@ -71,16 +66,13 @@ pub(crate) fn integer_call(
     } else {
         Form::Display
     };
-    if 4 <= t && same(slice_up_to_len(arguments, 1), b"-") {
-        return negative(fmt, buf, form, t, part(arguments, 1, arguments.len()));
-    }
-    let Number::Is(n) = number(arguments, u64::MAX) else {
-        return other(fmt);
-    };
     if t < 4 {
+        let Some(n) = number(arguments, u64::MAX) else {
+            return other(fmt);
+        };
         return unsigned(fmt, buf, form, t, n);
     }
-    let Ok(x) = i64::try_from(n) else {
+    let Some(x) = signed_number(arguments) else {
         return other(fmt);
     };
     signed(fmt, buf, form, t, x)

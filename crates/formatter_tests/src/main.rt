@@ -8,7 +8,7 @@ mod print;
 mod texts;
 
 use calls::Settings;
-use fields::{Number, first_field, index_of, later_fields, number};
+use fields::{first_field, later_fields, number};
 use formatter_by_value::{Formatter, FormatterStep};
 use formatting::flags_of;
 use line_input::read_more;
@@ -37,11 +37,12 @@ fn answer_calls(
     let mut written = Formatter::writing(buf, at, settings);
     let mut end = put_call(out, 0, name, counted, written);
     let mut rest = calls;
-    while 0 < rest.len() {
+    while !rest.is_empty() {
+        // By hand, and not by `split`: a call is played with what stands before it.
         let calls_before = part(calls, 0, calls.len() - rest.len());
         let later = &rest[1..];
-        let n = index_of(later, b';');
-        let call = &later[0..n];
+        let n = later.iter().position(|b| *b == b';').unwrap_or(later.len());
+        let call = &later[..n];
         rest = &later[n..];
         let counts = counted.fmt;
         let writes = written.fmt;
@@ -57,13 +58,13 @@ fn answer_calls(
 fn answer_line(head: &[u8], calls: &[u8], out: &mut [u8]) -> usize {
     let fields = later_fields(head);
     let sizes = later_fields(fields);
-    let Number::Is(flags) = number(first_field(fields), 11) else {
+    let Some(flags) = number(first_field(fields), 11) else {
         return 0;
     };
-    let Number::Is(len) = number(first_field(sizes), 256) else {
+    let Some(len) = number(first_field(sizes), 256) else {
         return 0;
     };
-    let Number::Is(at) = number(later_fields(sizes), u64::MAX) else {
+    let Some(at) = number(later_fields(sizes), u64::MAX) else {
         return 0;
     };
     let mut dots = [b'.'; 256];
@@ -86,13 +87,13 @@ fn bad(out: &mut [u8]) -> usize {
 
 // Lays what a line prints: where that ends. A comment and an empty line print nothing.
 fn answer(line: &[u8], out: &mut [u8]) -> usize {
-    if index_of(line, b'#') == 0 {
+    if line.is_empty() || line.starts_with(b"#") {
         return 0;
     }
     if MAX_LINE < line.len() {
         return bad(out);
     }
-    let n = index_of(line, b';');
+    let n = line.iter().position(|b| *b == b';').unwrap_or(line.len());
     let end = answer_line(&line[0..n], &line[n..], out);
     if end == 0 {
         return bad(out);

@@ -3,13 +3,13 @@ use crate::integers::integer_call;
 use crate::texts::{
     char_call, flags_call, other, plain_call, range_call, repeated_call, text_call,
 };
-use fields::{Number, first_field, index_of, later_fields, number, place_of, same};
+use fields::{first_field, later_fields, number, place_of};
 use formatter_by_value::{Formatter, FormatterStep};
 
 // Makes the call `NAME,ARGUMENTS`.
 fn make_call(fmt: Formatter, buf: &mut [u8], call: &[u8]) -> FormatterStep {
     let arguments = later_fields(call);
-    let k = place_of(
+    let Some(k) = place_of(
         first_field(call),
         b"debug_list,debug_set,tuple_field,entry,finish,end_formatter,\
         debug_struct,debug_tuple,field,write_str,write_str_debug,write_ascii,write_ascii_debug,\
@@ -19,29 +19,18 @@ fn make_call(fmt: Formatter, buf: &mut [u8], call: &[u8]) -> FormatterStep {
         write_u32_display,write_u32_debug,write_u64_display,write_u64_debug,\
         write_i8_display,write_i8_debug,write_i16_display,write_i16_debug,\
         write_i32_display,write_i32_debug,write_i64_display,write_i64_debug",
-    );
-    if k < 6 {
-        return plain_call(fmt, buf, k, arguments);
+    ) else {
+        return other(fmt);
+    };
+    match k {
+        0..=5 => plain_call(fmt, buf, k, arguments),
+        6..=12 => text_call(fmt, buf, k - 6, arguments),
+        13..=16 => range_call(fmt, buf, k - 13, arguments),
+        17..=18 => char_call(fmt, buf, k - 17, arguments),
+        19 => repeated_call(fmt, buf, arguments),
+        20 => flags_call(fmt, buf, arguments),
+        _ => integer_call(fmt, buf, k - 21, arguments),
     }
-    if k < 13 {
-        return text_call(fmt, buf, k - 6, arguments);
-    }
-    if k < 17 {
-        return range_call(fmt, buf, k - 13, arguments);
-    }
-    if k < 19 {
-        return char_call(fmt, buf, k - 17, arguments);
-    }
-    if k == 19 {
-        return repeated_call(fmt, buf, arguments);
-    }
-    if k == 20 {
-        return flags_call(fmt, buf, arguments);
-    }
-    if k < 37 {
-        return integer_call(fmt, buf, k - 21, arguments);
-    }
-    other(fmt)
 }
 
 // Makes the calls of a line, each behind a semicolon: the last answer.
@@ -69,8 +58,8 @@ pub(crate) fn play(
     call: &[u8],
     calls_before: &[u8],
 ) -> FormatterStep {
-    if same(first_field(call), b"repeat") {
-        let Number::Is(n) = number(later_fields(call), 65536) else {
+    if first_field(call) == b"repeat".as_slice() {
+        let Some(n) = number(later_fields(call), 65536) else {
             return other(fmt);
         };
         return repeat(fmt, buf, calls_before, n);

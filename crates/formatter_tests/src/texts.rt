@@ -1,6 +1,6 @@
 // Calls with no argument, with a text, a character, a repeated byte or flags. k is the place of the
 // name among those with the same arguments.
-use fields::{HexBytes, Number, first_field, from_hex, later_fields, number};
+use fields::{first_field, from_hex, later_fields, number};
 use formatter_by_value::{Formatter, FormatterStep};
 use formatting::flags_of;
 use utils::{Range, slice_up_to_len};
@@ -83,7 +83,7 @@ pub(crate) fn text_call(
     arguments: &[u8],
 ) -> FormatterStep {
     let mut space = [0u8; 72];
-    let HexBytes::Are(n) = from_hex(arguments, &mut space) else {
+    let Some(n) = from_hex(arguments, &mut space) else {
         return other(fmt);
     };
     whole(fmt, buf, k, slice_up_to_len(&space, n))
@@ -97,14 +97,14 @@ pub(crate) fn range_call(
     arguments: &[u8],
 ) -> FormatterStep {
     let mut space = [0u8; 72];
-    let HexBytes::Are(n) = from_hex(first_field(arguments), &mut space) else {
+    let Some(n) = from_hex(first_field(arguments), &mut space) else {
         return other(fmt);
     };
     let later = later_fields(arguments);
-    let Number::Is(start) = number(first_field(later), u64::MAX) else {
+    let Some(start) = number(first_field(later), u64::MAX) else {
         return other(fmt);
     };
-    let Number::Is(end) = number(later_fields(later), u64::MAX) else {
+    let Some(end) = number(later_fields(later), u64::MAX) else {
         return other(fmt);
     };
     let range = Range {
@@ -121,7 +121,7 @@ pub(crate) fn char_call(
     k: usize,
     arguments: &[u8],
 ) -> FormatterStep {
-    let Number::Is(c) = number(arguments, u64::MAX) else {
+    let Some(c) = number(arguments, u64::MAX) else {
         return other(fmt);
     };
     if 4294967295 < c {
@@ -135,10 +135,10 @@ pub(crate) fn char_call(
 
 // `BYTE,COUNT`: write_ascii_repeated.
 pub(crate) fn repeated_call(fmt: Formatter, buf: &mut [u8], arguments: &[u8]) -> FormatterStep {
-    let Number::Is(c) = number(first_field(arguments), u64::MAX) else {
+    let Some(c) = number(first_field(arguments), u64::MAX) else {
         return other(fmt);
     };
-    let Number::Is(n) = number(later_fields(arguments), u64::MAX) else {
+    let Some(n) = number(later_fields(arguments), u64::MAX) else {
         return other(fmt);
     };
     if 255 < c {
@@ -149,7 +149,7 @@ pub(crate) fn repeated_call(fmt: Formatter, buf: &mut [u8], arguments: &[u8]) ->
 
 // `FLAGS`: make_formatter.
 pub(crate) fn flags_call(fmt: Formatter, buf: &mut [u8], arguments: &[u8]) -> FormatterStep {
-    let Number::Is(flags) = number(arguments, 11) else {
+    let Some(flags) = number(arguments, 11) else {
         return other(fmt);
     };
     fmt.make_formatter(buf, flags_of(flags))

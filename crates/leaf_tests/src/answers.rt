@@ -21,13 +21,12 @@ fn answer_at(place: usize) -> Answer {
 
 // `answer,NAME`: the number of the answer.
 pub(crate) fn put_answer(name: &[u8], out: &mut [u8; 8192], at: usize) -> usize {
-    let place = place_of(
+    let Some(place) = place_of(
         name,
         b"Done,NotEnoughSpace,NotAscii,NotOnCharBoundary,NotUtf8,NotAChar,CountTooLarge,TooDeep,WrongCall,BadCursor",
-    );
-    if place == 10 {
+    ) else {
         return 0;
-    }
+    };
     let answer = answer_at(place);
     let at = put_bytes(out, at, name);
     put_template(out, at, b": %\n", answer.number() as u64, 0)

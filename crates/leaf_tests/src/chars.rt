@@ -3,7 +3,7 @@ use crate::{put_pairs, put_template};
 use char_encoding::{
     char_debug_len, char_display_len, char_to_debug, char_to_display, char_to_utf8,
 };
-use fields::{Number, number};
+use fields::number;
 
 // The bytes of an array, and how many of them are used.
 fn put_four(s: &[u8; 4], len: usize, out: &mut [u8; 8192], at: usize) -> usize {
@@ -42,7 +42,7 @@ fn put_debug(c: u32, out: &mut [u8; 8192], at: usize) -> usize {
 
 // `char,CODE`: the octets, the display and the quoted form, and the lengths of these two.
 pub(crate) fn put_char(code: &[u8], out: &mut [u8; 8192], at: usize) -> usize {
-    let Number::Is(n) = number(code, u64::MAX) else {
+    let Some(n) = number(code, u64::MAX) else {
         return 0;
     };
     if 4294967295 < n {

@@ -1,6 +1,6 @@
 // Escapes.
 use crate::{put_bytes, put_template};
-use fields::{Number, number};
+use fields::number;
 use formatting::{bit, escape_letter, is_backslash_escaped, is_escaped};
 
 // The letter of a byte by its code, or `none`.
@@ -13,7 +13,7 @@ fn put_letter(letter: Option<u8>, out: &mut [u8; 8192], at: usize) -> usize {
 
 // `escape,BYTE`: the letter, whether the byte is escaped, and whether by a letter.
 pub(crate) fn put_escape(field: &[u8], out: &mut [u8; 8192], at: usize) -> usize {
-    let Number::Is(n) = number(field, u64::MAX) else {
+    let Some(n) = number(field, u64::MAX) else {
         return 0;
     };
     if 255 < n {

@@ -1,18 +1,17 @@
 // Integers: the length and the text of the display form, and of the debug form by the flags.
 use crate::{put_bytes, put_template};
-use fields::{Number, first_field, later_fields, number, place_of};
+use fields::{first_field, later_fields, number, place_of};
 use formatting::FormattingFlags;
 use lines::part;
 use pargument::{Integer, to_integer};
 use pwrapper::{PrimitiveInteger, compute_debug_len, compute_display_len};
 use std::num::TryFromIntError;
 
-// A number in decimal, or a field of another form.
+// A number in decimal, behind a minus or not.
 #[derive(Clone, Copy)]
 enum Signed {
     Plus(u64),
     Minus(u64),
-    Other,
 }
 
 // The flags of the forms that a case prints: 0 and 1 decimal, 2 to 4 hexadecimal, 5 and 6 binary.
@@ -98,20 +97,14 @@ fn put_forms<I: PrimitiveInteger>(
     put_bytes(out, to, b"\n")
 }
 
-// A number in decimal, behind a minus or not.
-fn signed_number(s: &[u8]) -> Signed {
+// The number that a field is in decimal, behind a minus or not.
+fn signed_number(s: &[u8]) -> Option<Signed> {
     if 0 < s.len() {
         if s[0] == b'-' {
-            return match number(&s[1..], u64::MAX) {
-                Number::Is(n) => Signed::Minus(n),
-                Number::Other => Signed::Other,
-            };
+            return Some(Signed::Minus(number(&s[1..], u64::MAX)?));
         }
     }
-    match number(s, u64::MAX) {
-        Number::Is(n) => Signed::Plus(n),
-        Number::Other => Signed::Other,
-    }
+    Some(Signed::Plus(number(s, u64::MAX)?))
 }
 
 // The value n of an unsigned type, by its place in put_integer.
@@ -140,18 +133,17 @@ fn put_signed(kind: usize, is_negative: bool, n: u64, out: &mut [u8; 8192], at: 
 
 // `u8,VALUE` to `i64,VALUE`: the display form, and the debug form by six flags.
 pub(crate) fn put_integer(word: &[u8], s: &[u8], out: &mut [u8; 8192], at: usize) -> usize {
-    let kind = place_of(word, b"u8,u16,u32,u64,i8,i16,i32,i64");
-    if 7 < kind {
+    let Some(kind) = place_of(word, b"u8,u16,u32,u64,i8,i16,i32,i64") else {
         return 0;
-    }
+    };
     match signed_number(s) {
-        Signed::Plus(n) => {
+        Some(Signed::Plus(n)) => {
             if kind < 4 {
                 return put_unsigned(kind, n, out, at);
             }
             put_signed(kind, false, n, out, at)
         }
-        Signed::Minus(n) => {
+        Some(Signed::Minus(n)) => {
             if kind < 4 {
                 return 0;
             }
@@ -160,7 +152,7 @@ pub(crate) fn put_integer(word: &[u8], s: &[u8], out: &mut [u8; 8192], at: usize
             }
             put_signed(kind, true, n - 1, out, at)
         }
-        Signed::Other => 0,
+        None => 0,
     }
 }
 
@@ -181,7 +173,7 @@ fn put_made(
     out: &mut [u8; 8192],
     at: usize,
 ) -> usize {
-    let Number::Is(mask) = number(later_fields(fields), u64::MAX) else {
+    let Some(mask) = number(later_fields(fields), u64::MAX) else {
         return 0;
     };
     let i = Integer {
@@ -198,8 +190,8 @@ fn put_made(
 // `integer,UNSIGNED,MASK`, with a minus before UNSIGNED or not: the display form, and the bits.
 pub(crate) fn put_parts(fields: &[u8], out: &mut [u8; 8192], at: usize) -> usize {
     match signed_number(first_field(fields)) {
-        Signed::Plus(n) => put_made(false, n, fields, out, at),
-        Signed::Minus(n) => put_made(true, n, fields, out, at),
-        Signed::Other => 0,
+        Some(Signed::Plus(n)) => put_made(false, n, fields, out, at),
+        Some(Signed::Minus(n)) => put_made(true, n, fields, out, at),
+        None => 0,
     }
 }

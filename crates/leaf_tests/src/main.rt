@@ -9,7 +9,7 @@ mod escapes;
 mod integers;
 mod texts;
 
-use fields::{first_field, index_of, later_fields, place_of, put_hex};
+use fields::{place_of, put_hex, split_field};
 use integer_writes::write_display;
 use line_input::read_more;
 use lines::{MAX_LINE, Reader, next_line, part};
@@ -32,8 +32,6 @@ pub(crate) const RANGE: usize = 6;
 
 const ESCAPE: usize = 8;
 
-const INTEGER: usize = 9;
-
 // Lays bytes at the cursor as they are.
 pub(crate) fn put_bytes(out: &mut [u8; 8192], at: usize, s: &[u8]) -> usize {
     put(out, at, s).at
@@ -53,39 +51,27 @@ pub(crate) fn put_template(
     later: u64,
 ) -> usize {
     let mut to = at;
-    for (i, piece) in text.split(|b| *b == b'%').enumerate() {
-        to = match i {
-            0 => to,
-            1 => write_display(out, to, first).at,
-            _ => write_display(out, to, later).at,
-        };
-        to = put(out, to, piece).at;
+    for (i, part) in text.split(|b| *b == b'%').enumerate() {
+        if 0 < i {
+            let number = if i == 1 { first } else { later };
+            to = write_display(out, to, number).at;
+        }
+        to = put(out, to, part).at;
     }
     to
 }
 
 // Lays what a case prints into out from at on, and gives its end; 0 for a case of another form.
 fn put_case(word: &[u8], fields: &[u8], out: &mut [u8; 8192], at: usize) -> usize {
-    let kind = place_of(
-        word,
-        b"answer,char,integer,utf8,ascii,boundary,range,quoted,escape",
-    );
-    if kind == ANSWER {
-        return answers::put_answer(fields, out, at);
+    let kinds = b"answer,char,integer,utf8,ascii,boundary,range,quoted,escape";
+    match place_of(word, kinds) {
+        Some(ANSWER) => answers::put_answer(fields, out, at),
+        Some(CHAR) => chars::put_char(fields, out, at),
+        Some(PARTS) => integers::put_parts(fields, out, at),
+        Some(ESCAPE) => escapes::put_escape(fields, out, at),
+        Some(kind) => texts::put_text(kind, fields, out, at),
+        None => integers::put_integer(word, fields, out, at),
     }
-    if kind == CHAR {
-        return chars::put_char(fields, out, at);
-    }
-    if kind == PARTS {
-        return integers::put_parts(fields, out, at);
-    }
-    if kind == ESCAPE {
-        return escapes::put_escape(fields, out, at);
-    }
-    if kind == INTEGER {
-        return integers::put_integer(word, fields, out, at);
-    }
-    texts::put_text(kind, fields, out, at)
 }
 
 // Lays what a line prints into out, and gives its end; 0 for a line of another form.
@@ -93,13 +79,12 @@ fn put_line(line: &[u8], out: &mut [u8; 8192]) -> usize {
     if MAX_LINE < line.len() {
         return 0;
     }
-    if index_of(line, b',') == line.len() {
+    let Some((word, fields)) = split_field(line) else {
         return 0;
-    }
-    let word = first_field(line);
+    };
     let at = put_bytes(out, 0, word);
     let at = put_bytes(out, at, b" ");
-    put_case(word, later_fields(line), out, at)
+    put_case(word, fields, out, at)
 }
 
 // Copies the bytes before the end of what is laid.

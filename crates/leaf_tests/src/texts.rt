@@ -1,7 +1,7 @@
 // Texts: the UTF-8 and the ASCII test, boundaries, ranges, the lengths of quoted strings.
 use crate::{ASCII, BOUNDARY, RANGE, put_bytes, put_pairs, put_template};
 use ascii_str::AsciiStr;
-use fields::{HexBytes, Number, first_field, from_hex, index_of, later_fields, number};
+use fields::{first_field, from_hex, later_fields, number, split_field};
 use formatting::bit;
 use pwrapper::{DebugLen, compute_utf8_debug_len, compute_utf8_debug_len_in_range};
 use utf8::is_utf8;
@@ -22,7 +22,7 @@ fn put_ascii(s: &[u8], out: &mut [u8; 8192], at: usize) -> usize {
 
 // `boundary,HEX,INDEX`: whether the index is a boundary.
 fn put_boundary(s: &[u8], field: &[u8], out: &mut [u8; 8192], at: usize) -> usize {
-    let Number::Is(index) = number(field, u64::MAX) else {
+    let Some(index) = number(field, u64::MAX) else {
         return 0;
     };
     let is_boundary = is_char_boundary(s, index as usize);
@@ -55,10 +55,10 @@ fn put_quoted_len(s: &[u8], r: Range, out: &mut [u8; 8192], at: usize) -> usize 
 
 // A case about a text and a range of it.
 fn put_part(kind: usize, s: &[u8], fields: &[u8], out: &mut [u8; 8192], at: usize) -> usize {
-    let Number::Is(start) = number(first_field(fields), u64::MAX) else {
+    let Some(start) = number(first_field(fields), u64::MAX) else {
         return 0;
     };
-    let Number::Is(end) = number(later_fields(fields), u64::MAX) else {
+    let Some(end) = number(later_fields(fields), u64::MAX) else {
         return 0;
     };
     let r = Range {
@@ -80,7 +80,7 @@ fn put_about(kind: usize, s: &[u8], fields: &[u8], out: &mut [u8; 8192], at: usi
     if kind == BOUNDARY {
         return put_boundary(s, later_fields(fields), out, at);
     }
-    if index_of(fields, b',') < fields.len() {
+    if split_field(fields).is_some() {
         return 0;
     }
     if kind == ASCII {
@@ -94,8 +94,8 @@ fn put_about(kind: usize, s: &[u8], fields: &[u8], out: &mut [u8; 8192], at: usi
 pub(crate) fn put_text(kind: usize, fields: &[u8], out: &mut [u8; 8192], at: usize) -> usize {
     let mut bytes = [0u8; 2048];
     let text: &mut [u8] = &mut bytes;
-    match from_hex(first_field(fields), text) {
-        HexBytes::Are(len) => put_about(kind, slice_up_to_len(text, len), fields, out, at),
-        HexBytes::NotHex => 0,
-    }
+    let Some(len) = from_hex(first_field(fields), text) else {
+        return 0;
+    };
+    put_about(kind, slice_up_to_len(text, len), fields, out, at)
 }

@@ -1,10 +1,10 @@
 // The lines of an input that is read in pieces into a lent buffer (document 01, 'The call sheet').
 #![tactic(auto)]
 
-ghost use Rattle.std.specs.Prelude.{true, false, ◌≡◌, [], ◌++◌, length, drop};
+ghost use Rattle.std.specs.Prelude.{true, false, ◌≡◌, [], ◌++◌, ◌≤◌, length, drop};
+ghost use Rattle.fields.specs.Fields.{index_of};
 ghost use Rattle.lines.specs.Reading.{held, held_of, Skips, Takes, taken_none, taken_last};
 
-use fields::index_of;
 use utils::slice_up_to_len;
 
 // The most bytes of a line, its line feed not among them.
@@ -56,6 +56,13 @@ pub fn part(space: &[u8], from: usize, to: usize) -> &[u8]
     slice_up_to_len(&space[from..], to - from)
 }
 
+// The place of the first line feed of s, or the length of s.
+fn line_end(s: &[u8]) -> usize
+    ensures { (result ≡ index_of 10 s.now) × (result ≤ length s.now) }
+{
+    s.iter().position(|b| *b == b'\n').unwrap_or(s.len())
+}
+
 // What is held behind the rest of a line that was too long.
 fn skipped(r: Reader, space: &[u8]) -> Reader
     ensures { Skips r result space.now }
@@ -67,7 +74,7 @@ fn skipped(r: Reader, space: &[u8]) -> Reader
     let from = r.from;
     let to = r.to;
     let s = part(space, from, to);
-    let n = index_of(s, b'\n');
+    let n = line_end(s);
     if n < s.len() {
         return Reader {
             from: from + n + 1,
@@ -135,7 +142,7 @@ fn line_in(r: Reader, space: &[u8], limit: usize) -> Taken
     let to = r.to;
     let ended = r.ended;
     let s = part(space, from, to);
-    let n = index_of(s, b'\n');
+    let n = line_end(s);
     if limit < n {
         let end = from + (limit + 1);
         return Taken {

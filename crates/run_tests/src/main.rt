@@ -6,7 +6,6 @@ mod line;
 mod print;
 
 use calls::Settings;
-use fields::index_of;
 use formatting::FormattingFlags;
 use line::{Head, name_of, read_head, read_run};
 use line_input::read_more;
@@ -61,32 +60,34 @@ fn play(
     put_ran(out, at, play_once(word, settings, n, calls, text), b'\n')
 }
 
-// Lays what the run of a line prints, with room for its words and its texts.
-fn answer_run(line: &[u8], words: &mut [u64], pool: &mut [u8], out: &mut [u8]) -> usize {
-    let n = index_of(line, b';');
-    let head = &line[0..n];
-    let run = read_run(&line[n..], words, pool);
-    if let Head::Is(word, settings, v) = read_head(head) {
-        if run.is_run && line.len() <= MAX_LINE {
-            let k = run.words;
-            let all = &words[..];
-            if k < all.len() {
-                return play(word, settings, v, name_of(head), &all[0..k], pool, out);
-            }
-        }
+// Lays what the run of a line prints, with room for its words and its texts: where that ends; None
+// for a line of another form.
+fn answer_run(line: &[u8], words: &mut [u64], pool: &mut [u8], out: &mut [u8]) -> Option<usize> {
+    if MAX_LINE < line.len() {
+        return None;
     }
-    let bad = write_ascii(out, 0, b"bad\n");
-    bad.at
+    let head_len = line.iter().position(|b| *b == b';').unwrap_or(line.len());
+    let head = &line[..head_len];
+    let run = read_run(&line[head_len..], words, pool)?;
+    let Head { word, settings, n } = read_head(head)?;
+    if words.len() <= run.words {
+        return None;
+    }
+    let calls = &words[..run.words];
+    Some(play(word, settings, n, name_of(head), calls, pool, out))
 }
 
 // Lays what a line prints: where that ends. A comment and an empty line print nothing.
 fn answer(line: &[u8], out: &mut [u8]) -> usize {
     let mut words = [0u64; 1280];
     let mut pool = [0u8; 2048];
-    if index_of(line, b'#') == 0 {
+    if line.is_empty() || line.starts_with(b"#") {
         return 0;
     }
-    answer_run(line, &mut words, &mut pool, out)
+    match answer_run(line, &mut words, &mut pool, out) {
+        Some(end) => end,
+        None => write_ascii(out, 0, b"bad\n").at,
+    }
 }
 
 fn main(rt: HostRuntime) -> io::Result<()> {

@@ -1,8 +1,6 @@
 // A line is read, its run is played, and what that gives is compared with what the line has.
 use calls::Settings;
-use fields::{
-    HexBytes, Number, first_field, from_hex, later_fields, number, put_hex, put_number, same,
-};
+use fields::{first_field, from_hex, later_fields, number, put_hex, put_number};
 use formatting::flags_of;
 use lines::MAX_LINE;
 use run::{Ran, count_run, write_run};
@@ -13,7 +11,7 @@ use utils::slice_up_to_len;
 fn decimals<'a>(line: &'a [u8], words: &mut [u64]) -> &'a [u8] {
     let mut rest = line;
     for word in words {
-        let Number::Is(n) = number(first_field(rest), u64::MAX) else {
+        let Some(n) = number(first_field(rest), u64::MAX) else {
             return &[];
         };
         *word = n;
@@ -58,7 +56,7 @@ pub(crate) fn is_same(line: &[u8]) -> bool {
     let k = n as usize;
     let words = &mut word_space[0..k];
     let texts = decimals(calls, words);
-    let HexBytes::Are(len) = from_hex(first_field(texts), &mut text_space) else {
+    let Some(len) = from_hex(first_field(texts), &mut text_space) else {
         return false;
     };
     let settings = Settings {
@@ -70,5 +68,5 @@ pub(crate) fn is_same(line: &[u8]) -> bool {
     let counted = count_run(settings, words, text);
     let written = write_run(settings, buf, head[1] as usize, words, text);
     let end = put_given(counted, written, buf, &mut given);
-    same(later_fields(texts), slice_up_to_len(&given, end))
+    later_fields(texts) == slice_up_to_len(&given, end)
 }

@@ -1,72 +1,37 @@
 -- Demand 3 on a call sheet, from the theorem about whole lists of calls.
 use mathlib.Core.Bool.{Bool, true, false, cond}
-use mathlib.Core.Option.{Option, none, some}
+use Rattle.std.specs.Prelude.{Option, Some, None, Ok, Err}
 use mathlib.Core.Path.{◌≡◌, refl, ap, ◌∙◌}
 use mathlib.Core.List.{List, [], ◌∷◌, ◌++◌, map, append_assoc}
-use Prim.Native.Nat.{ℕ, zero, suc, ◌+◌, ◌-◌, ◌^◌, ◌≤◌}
+use Prim.Native.Nat.{ℕ, zero, suc, ◌+◌, ◌-◌, ◌≤◌}
 use native.Mathlib.Nat.{sub-zero, zero-sub, suc-sub-suc}
 use native.Mathlib.Omega.{arith}
 use lib.Dec.{ltb}
 use lib.ListN.{length, take, drop, replicate, length-append, length-replicate}
 use lib.Seq.{take_at}
 use borrow.Author.Tests.{ltb-false}
-use Rattle.formatting.specs.declared.flags.FormattingFlags.{FormattingFlags}
 use Rattle.calls.specs.Call.{Call}
 use Rattle.calls.specs.Model.{number_in, Output, step, run}
 use Rattle.agreement.specs.Untouched.{OnlyBetween}
 use Rattle.agreement.specs.Agreement.{AllDone, defined_text, Counted, Written}
 use Rattle.agreement.proofs.Rest.{rest_untouched, rest-written}
 use Rattle.agreement.proofs.Agree.{agree}
-use Rattle.formatting.specs.Bytes.{bytes}
-use Rattle.fields.specs.Fields.{same, fields}
-use Rattle.fields.specs.Decimal.{decimal_of, up_to}
-use Rattle.sheet_line.specs.declared.begin.Flags.{Flags}
-use Rattle.sheet_line.specs.declared.begin.Flags.TheVariants.{Are, NoFlags}
-use Rattle.sheet_line.specs.declared.begin.Begin.TheVariants.{Bad, BadCursor, Fresh}
-use Rattle.sheet_line.specs.Begin.{flag_fields, sized, size_fields, begin_fields, begin_of}
+use Rattle.sheet_line.specs.declared.begin.Begin.{Begin}
+use Rattle.sheet_line.specs.declared.begin.BadBegin.TheVariants.{Cursor}
+use Rattle.sheet_line.specs.Begin.{begin_line, sized}
 use Rattle.sheet_line.specs.Line.{call_of_line}
 use Rattle.sheet.specs.Sheet.{Sheet, fresh_sheet, end_text}
 use Rattle.sheet.specs.Printed.{printed_from}
 use Rattle.sheet.specs.SheetAgreement.{rows_from, sheet_after, rows_text, AllZero, counting_answers, writing_answers, sheet_rows, SheetAgrees, SheetRest}
 
 -- a run that begins has its cursor in the buffer
-module _ (n p : ℕ) (f : FormattingFlags) where
-  bad_begin : Bad ≡ Fresh n p f → p ≤ n
-  bad_begin e = let z : ◌≡◌ {A = ℕ} 0 1 = cc in omega arith
+tested-within : (b r : Begin) (t : Bool) → ltb b.size b.cursor ≡ t → cond t (Err Cursor) (Ok b) ≡ Ok r → r.cursor ≤ r.size
+tested-within b r true q e = let z : ◌≡◌ {A = ℕ} 0 1 = cc in omega arith
+tested-within b r false q e = let x : b ≡ r = cc in rw x at (ltb-false b.size b.cursor q)
 
-  tested-within : (a b : ℕ) (g : FormattingFlags) (t : Bool) → ltb a b ≡ t → cond t BadCursor (Fresh a b g) ≡ Fresh n p f → p ≤ n
-  tested-within a b g true q e = let z : ◌≡◌ {A = ℕ} 0 1 = cc in omega arith
-  tested-within a b g false q e =
-      let x : a ≡ n = cc in
-      let y : b ≡ p = cc in
-      omega (arith, ltb-false a b q)
-
-  sized-within : (a b : Option ℕ) (g : Flags) → sized a b g ≡ Fresh n p f → p ≤ n
-  sized-within none b g e = bad_begin e
-  sized-within (some a) none g e = bad_begin e
-  sized-within (some a) (some b) NoFlags e = bad_begin e
-  sized-within (some a) (some b) (Are g) e = tested-within a b g (ltb a b) refl e
-
-  size-within : (fs : List (List ℕ)) → size_fields fs ≡ Fresh n p f → p ≤ n
-  size-within [] e = bad_begin e
-  size-within (a ∷ []) e = bad_begin e
-  size-within (a ∷ b ∷ fs) e = sized-within (up_to 4096 (decimal_of a)) (up_to (2 ^ 64 - 1) (decimal_of b)) (flag_fields fs) e
-
-  word-within : (t : Bool) (fs : List (List ℕ)) → cond t (size_fields fs) Bad ≡ Fresh n p f → p ≤ n
-  word-within true fs e = size-within fs e
-  word-within false fs e = bad_begin e
-
-  fields_within : (fs : List (List ℕ)) → begin_fields fs ≡ Fresh n p f → p ≤ n
-  fields_within [] e = bad_begin e
-  fields_within (w ∷ fs) e = word-within (same w (bytes "begin")) fs e
-
-  length-within : (t : Bool) (fs : List (List ℕ)) → cond t Bad (begin_fields fs) ≡ Fresh n p f → p ≤ n
-  length-within true fs e = bad_begin e
-  length-within false fs e = fields_within fs e
-
-  begin-within : (l : List ℕ) → begin_of l ≡ Fresh n p f → p ≤ n
-  unfolding begin_of
-  begin-within l e = length-within (ltb 4096 (length l)) (fields l) e
+sized-within : (o : Option Begin) (r : Begin) → sized o ≡ Ok r → r.cursor ≤ r.size
+sized-within None r e = let z : ◌≡◌ {A = ℕ} 0 1 = cc in omega arith
+sized-within (Some b) r e = tested-within b r (ltb b.size b.cursor) refl e
 
 -- both runs of a sheet are runs over its calls
 after-counted : (S : Sheet) (cs : List Call) → (sheet_after S cs).counted ≡ (run S.counted cs).state
@@ -95,14 +60,14 @@ writing-rows k S [] = refl
 writing-rows k S (c ∷ cs) = ap (λ (l : List ℕ). (step S.written c).answer ∷ l) (writing-rows (suc k) _ cs)
 
 -- where every line is a call, a row is printed for each, then the last line
-printed-calls : (k : ℕ) (S : Sheet) (ls : List (List ℕ)) (cs : List Call) → map call_of_line ls ≡ map some cs
+printed-calls : (k : ℕ) (S : Sheet) (ls : List (List ℕ)) (cs : List Call) → map call_of_line ls ≡ map Some cs
     → printed_from k S ls ≡ rows_text (rows_from k S cs) ++ end_text (sheet_after S cs)
 printed-calls k S [] [] e = refl
 printed-calls k S [] (c ∷ cs) e = absurd (let z : ◌≡◌ {A = ℕ} 0 1 = cc in omega arith)
 printed-calls k S (l ∷ ls) [] e = absurd (let z : ◌≡◌ {A = ℕ} 0 1 = cc in omega arith)
 printed-calls k S (l ∷ ls) (c ∷ cs) e =
-    let h : call_of_line l ≡ some c = cc in
-    let r : map call_of_line ls ≡ map some cs = cc in
+    let h : call_of_line l ≡ Some c = cc in
+    let r : map call_of_line ls ≡ map Some cs = cc in
     rw (h, printed-calls (suc k) _ ls cs r, append_assoc)
 
 -- the first p of n zeros
@@ -127,7 +92,7 @@ sheet_agrees input n p S cs O P h =
     size = length-replicate n 0
 
     inside : p ≤ n
-    inside = begin-within n p S.flags O.first O.begins
+    inside = sized-within (begin_line O.first) _ O.begins
 
     both : Sheet
     both = fresh_sheet (replicate n 0) p S

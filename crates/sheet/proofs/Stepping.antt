@@ -1,11 +1,14 @@
 -- A line answered: both runs advanced by a call, or none.
 use mathlib.Core.Bool.{true}
-use mathlib.Core.Option.{Option, none, some}
-use mathlib.Core.Path.{◌≡◌, refl}
+use mathlib.Core.Option as maybe
+use mathlib.Core.Path.{◌≡◌, refl, ap}
 use mathlib.Core.List.{List, [], ◌∷◌}
 use Prim.Native.Nat.{ℕ, zero, suc, ◌%◌, ◌≤◌}
 use native.Mathlib.Omega.{arith}
 use lib.ListN.{length}
+use Rattle.std.specs.Prelude.{Option, Some, None, is_some}
+use Rattle.std.proofs.lemmas.Option.{none-some, same_Some}
+use Rattle.sheet_line.specs.Reading.{option_from}
 use Rattle.calls.specs.Call.{Call}
 use Rattle.calls.specs.Model.{number_in, step}
 use Rattle.str_writer.specs.declared.piece.Written.{Written}
@@ -17,7 +20,7 @@ use Rattle.formatter.specs.View.{view, view_out}
 use Rattle.formatter.specs.Calls.{step_or}
 use Rattle.sheet.specs.declared.Sheet as code
 use Rattle.sheet.specs.Sheet.{Sheet, row_text, stepped}
-use Rattle.sheet.specs.SheetView.{sheet_of, is_some, Step, stepped_of, stepping, LineAnswer, answering}
+use Rattle.sheet.specs.SheetView.{sheet_of, Step, stepped_of, stepping, LineAnswer, answering}
 
 number_of : (t n : ℕ) → number_in (as_mode t n) ≡ n
 number_of zero n = refl
@@ -31,26 +34,30 @@ pub empty : (l : List ℕ) → length l ≡ 0 → l ≡ []
 empty [] h = refl
 empty (x ∷ l) h = absurd (omega arith)
 
+from_some : (o : maybe.Option Call) (c : Call) → option_from o ≡ Some c → o ≡ maybe.some c
+from_some maybe.none c e = absurd (none-some c e)
+from_some (maybe.some x) c e = ap maybe.some (same_Some x c e)
+
 -- both runs play the same call
-module _ (k : ℕ) (S : code.Sheet) (s t b : List ℕ) (o : Option Call) (x y : HeadStep) (s' n' t' b' : List ℕ) where
-  pub both : view_out x s' n' ≡ step_or (view S.counted s []) o → length n' ≡ 0 → view_out y t' b' ≡ step_or (view S.written t b) o → (c : Call) → o ≡ some c
+module _ (k : ℕ) (S : code.Sheet) (s t b : List ℕ) (o : maybe.Option Call) (x y : HeadStep) (s' n' t' b' : List ℕ) where
+  pub both : view_out x s' n' ≡ step_or (view S.counted s []) o → length n' ≡ 0 → view_out y t' b' ≡ step_or (view S.written t b) o → (c : Call) → option_from o ≡ Some c
       → stepped_of (record { sheet = record { counted = x.head; written = y.head }; row = record { line = k; counting_answer = x.answer; total = x.head.mode.number; writing_answer = y.answer; cursor = y.head.mode.number } }) s' t' b'
       ≡ stepping k (sheet_of S s t b) c
   both p z q c e =
-      let a : view_out x s' [] ≡ step (view S.counted s []) c = rw (e, empty n' z) at p in
-      let d : view_out y t' b' ≡ step (view S.written t b) c = rw e at q in
+      let a : view_out x s' [] ≡ step (view S.counted s []) c = rw (from_some o c e, empty n' z) at p in
+      let d : view_out y t' b' ≡ step (view S.written t b) c = rw (from_some o c e) at q in
       rw (← a, ← d, number_in_lem x.head.mode, number_in_lem y.head.mode)
 
 -- the call of a line that is one
-pub a_call : (o : Option Call) → is_some o ≡ true → (c : Call) × (o ≡ some c)
-a_call none h = let z : ◌≡◌ {A = ℕ} 0 1 = cc in absurd (omega arith)
-a_call (some c) h = (c, refl)
+pub a_call : (o : Option Call) → is_some o ≡ true → (c : Call) × (o ≡ Some c)
+a_call None h = let z : ◌≡◌ {A = ℕ} 0 1 = cc in absurd (omega arith)
+a_call (Some c) h = (c, refl)
 
 module _ (k : ℕ) (S : Sheet) (o : Option Call) (out : List ℕ) (at : ℕ) (w : Written) (out' : List ℕ) where
-  pub answer-call : (c : Call) (t : Step) → o ≡ some c → t ≡ stepping k S c → outcome w out' ≡ put out at (row_text t.row) → ◌≡◌ {A = LineAnswer} (record { is_call = true; sheet = t.sheet; printed = outcome w out' }) (answering k S o out at)
+  pub answer-call : (c : Call) (t : Step) → o ≡ Some c → t ≡ stepping k S c → outcome w out' ≡ put out at (row_text t.row) → ◌≡◌ {A = LineAnswer} (record { is_call = true; sheet = t.sheet; printed = outcome w out' }) (answering k S o out at)
   answer-call c t e q p = rw (p, q, e)
 
 -- what a line prints is short
 module _ (k : ℕ) (S : Sheet) (o : Option Call) where
-  pub short-call : (c : Call) (t : Step) → o ≡ some c → t ≡ stepping k S c → length (row_text t.row) ≤ 105 → length (stepped k S o).text ≤ 105
+  pub short-call : (c : Call) (t : Step) → o ≡ Some c → t ≡ stepping k S c → length (row_text t.row) ≤ 105 → length (stepped k S o).text ≤ 105
   short-call c t e q h = rw e (rw q at h)

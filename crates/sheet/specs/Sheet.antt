@@ -1,6 +1,5 @@
 -- Document 01, 'The call sheet': both runs advanced by a line, and the text that it prints.
-use Rattle.std.specs.Prelude.{Bool, true, false, List, [], ◌∷◌, ◌++◌, ℕ, ◌+◌, ◌*◌, take}
-use Rattle.std.proofs.Math.Option.{Option, none, some}
+use Rattle.std.specs.Prelude.{Bool, true, false, List, [], ◌∷◌, ◌++◌, ℕ, ◌+◌, ◌*◌, take, Option, Some, None}
 use Rattle.calls.specs.declared.Settings.{Settings}
 use Rattle.calls.specs.Call.{Call}
 use Rattle.calls.specs.Model.{number_in, counting, writing, State, Out, step, start}
@@ -58,8 +57,8 @@ pub record Stepped : Type 0 where
 
 -- 'The call sheet': a call goes to both runs and prints a row; a line of another form prints `bad`
 abbrev pub stepped : ℕ → Sheet → Option Call → Stepped
-stepped k S none = record { is_call = false; sheet = S; text = bad_text k }
-stepped k S (some c) =
+stepped k S None = record { is_call = false; sheet = S; text = bad_text k }
+stepped k S (Some c) =
     let a = step S.counted c in
     let b = step S.written c in
     record { is_call = true; sheet = record { counted = a.state; written = b.state }; text = row_text (row_of k a b) }

@@ -1,6 +1,5 @@
 -- Demand 3 on a call sheet: what is printed where the run is proper.
-use Rattle.std.specs.Prelude.{◌≡◌, ◌↔◌, List, [], ◌∷◌, ◌++◌, map, ℕ, suc, ◌+◌, ◌-◌, ◌≤◌, ◌<◌, length, take, drop, replicate}
-use Rattle.std.proofs.Math.Option.{some}
+use Rattle.std.specs.Prelude.{◌≡◌, ◌↔◌, List, [], ◌∷◌, ◌++◌, map, ℕ, suc, ◌+◌, ◌-◌, ◌≤◌, ◌<◌, length, take, drop, replicate, Some, Ok}
 use Rattle.error.specs.declared.Answer.TheVariants.{NotEnoughSpace}
 use Rattle.error.specs.Answer.{number_of}
 use Rattle.calls.specs.declared.Settings.{Settings}
@@ -8,7 +7,6 @@ use Rattle.calls.specs.Call.{Call}
 use Rattle.calls.specs.Model.{number_in, step, most}
 use Rattle.agreement.specs.Untouched.{OnlyBetween}
 use Rattle.agreement.specs.Agreement.{AllDone, first_refusal, Proper, defined_text}
-use Rattle.sheet_line.specs.declared.begin.Begin.TheVariants.{Fresh}
 use Rattle.sheet_line.specs.Begin.{begin_of}
 use Rattle.sheet_line.specs.Line.{call_of_line}
 use Rattle.sheet.specs.declared.print.Row.{Row}
@@ -57,8 +55,8 @@ pub record SheetOf (input : List ℕ) (n p : ℕ) (S : Settings) (cs : List Call
   pub first : List ℕ
   pub later : List (List ℕ)
   pub lines : lines_of input ≡ first ∷ later
-  pub begins : begin_of first ≡ Fresh n p S.flags
-  pub calls : map call_of_line later ≡ map some cs
+  pub begins : begin_of first ≡ Ok (record { size = n; cursor = p; flags = S.flags })
+  pub calls : map call_of_line later ≡ map Some cs
 
 -- demand 3 on a sheet: it prints a row for each call, then the last line; every answer is 0 exactly when the text fits; and then the last line shows the length of the defined text, the cursor past it, and after the first p bytes the defined text; in either case every counting answer is 0, the total is that length and the first p bytes are as they were, and where the text does not fit, the first writing refusal is 1
 pub record Shows (input : List ℕ) (n p : ℕ) (S : Settings) (cs : List Call) : Type 0 where

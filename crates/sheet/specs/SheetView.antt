@@ -1,6 +1,5 @@
 -- The sheet of the definitions that the code's two heads, their stacks and the lent bytes are.
-use Rattle.std.specs.Prelude.{Bool, true, false, List, [], ℕ}
-use Rattle.std.proofs.Math.Option.{Option, none, some}
+use Rattle.std.specs.Prelude.{Bool, List, [], ℕ, Option}
 use Rattle.calls.specs.Call.{Call}
 use Rattle.str_writer.specs.Write.{Outcome, outcome, put}
 use Rattle.formatter.specs.View.{view}
@@ -14,11 +13,6 @@ use Rattle.sheet.specs.declared.Sheet as code
 -- 'The call sheet': the counting run has no buffer
 abbrev pub sheet_of : code.Sheet → List ℕ → List ℕ → List ℕ → Sheet
 sheet_of s c w b = record { counted = view s.counted c []; written = view s.written w b }
-
--- 'The call sheet': whether there is a call
-abbrev pub is_some : Option Call → Bool
-is_some none = false
-is_some (some c) = true
 
 -- 'The call sheet': both runs advanced by a call, and its row
 pub record Step : Type 0 where

@@ -4,16 +4,14 @@
 
 mod print;
 
-ghost use Rattle.std.specs.Prelude.{◌≡◌, List, ℕ, ◌≤◌, length};
+ghost use Rattle.std.specs.Prelude.{◌≡◌, List, ℕ, ◌≤◌, length, Some, is_some};
 ghost use Rattle.str_writer.specs.Write.{outcome, splice};
 ghost use Rattle.str_writer.specs.Write.{put as put_text};
 ghost use Rattle.sheet_line.specs.Line.{call_of_line};
-ghost use Rattle.sheet_line.specs.Reading.{text_in};
+ghost use Rattle.sheet_line.specs.Reading.{text_in, call_in};
 ghost use Rattle.sheet.specs.Sheet.{fresh_sheet, max_row, end_text, max_end, stepped};
-ghost use Rattle.std.proofs.Math.Option.{some};
 ghost use Rattle.calls.specs.Call.{Call};
-ghost use Rattle.formatter.specs.Calls.{call_of};
-ghost use Rattle.sheet.specs.SheetView.{sheet_of, is_some, stepped_of, stepping, answered, answering};
+ghost use Rattle.sheet.specs.SheetView.{sheet_of, stepped_of, stepping, answered, answering};
 
 use calls::Settings;
 use formatter::{Head, Op, call};
@@ -50,7 +48,7 @@ pub fn fresh(at: usize, settings: Settings) -> Sheet
 }
 
 fn is_call(op: Op) -> bool
-    ensures { (s : List ℕ) → result ≡ is_some (call_of op s) }
+    ensures { (s : List ℕ) → result ≡ is_some (call_in (Some op) s) }
 {
     match op {
         Op::Open(_) => true,
@@ -79,7 +77,7 @@ fn step(
     op: Op,
     s: &[u8],
 ) -> Stepped
-    ensures { (c : Call) → call_of op s.now ≡ some c →
+    ensures { (c : Call) → call_in (Some op) s.now ≡ Some c →
         stepped_of result counted.new written.new buf.new
         ≡ stepping line (sheet_of sheet counted.old written.old buf.old) c }
 {

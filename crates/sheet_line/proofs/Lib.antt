@@ -1,3 +1,4 @@
-pub mod Decimals
+pub mod Words
 pub mod Readings
 pub mod Splits
+pub mod Decimals

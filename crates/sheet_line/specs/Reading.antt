@@ -1,14 +1,25 @@
 -- What reading a line leaves: the call as `run` takes it, its text in a buffer of its own.
-use Rattle.std.specs.Prelude.{List, [], ℕ, length, take}
-use Rattle.std.proofs.Math.Option.{Option, none, some}
+use Rattle.std.specs.Prelude.{List, [], ℕ, length, take, Option, Some, None}
+use Rattle.std.proofs.Math.Option as maybe
 use Rattle.calls.specs.Call.{Call, opens, place, value, sub, endsub, finish, place_name, field}
 use Rattle.str_writer.specs.Value.{Value, integer, char, str, ascii, repeated, whole}
 use Rattle.str_writer.specs.Write.{splice}
 use Rattle.formatter.specs.Calls.{call_of}
+use Rattle.formatter.specs.declared.dispatch.Op.{Op}
 use Rattle.value_writes.specs.Values.{form_of}
 use Rattle.sheet_line.specs.declared.Parsed.{Parsed}
 use Rattle.sheet_line.specs.declared.texts.TextCall.{TextCall}
 use Rattle.sheet_line.specs.declared.texts.TextCall.TheVariants.{Open, Field, Str}
+
+-- the same option, as the code has it
+abbrev pub option_from : {A : Type 0} → maybe.Option A → Option A
+option_from maybe.none = None
+option_from (maybe.some x) = Some x
+
+-- 'The call sheet': the call that was read, if one was
+abbrev pub call_in : Option Op → List ℕ → Option Call
+call_in None s = None
+call_in (Some o) s = option_from (call_of o s)
 
 -- 'The call sheet': the call that an opening with a name, a field of a struct or a string is
 abbrev pub with_text : TextCall → List ℕ → Call
@@ -35,8 +46,8 @@ call_text finish = []
 
 -- 'The call sheet': a line of another form has none
 abbrev pub text_in : Option Call → List ℕ
-text_in none = []
-text_in (some c) = call_text c
+text_in None = []
+text_in (Some c) = call_text c
 
 -- 'The call sheet': a call as it was read, how long its text is, and the bytes of the buffer that the text stands in
 pub record Reading : Type 0 where
@@ -46,7 +57,12 @@ pub record Reading : Type 0 where
 
 -- 'The call sheet': the same of what a reading answers and the bytes as it returns
 abbrev pub reading : Parsed → List ℕ → Reading
-reading r b = record { call = call_of r.op (take r.len b); len = r.len; bytes = b }
+reading r b = record { call = option_from (call_of r.op (take r.len b)); len = r.len; bytes = b }
+
+-- 'The call sheet': the same of what may have been read
+abbrev pub reading_of : Option Parsed → List ℕ → Reading
+reading_of None b = record { call = None; len = 0; bytes = b }
+reading_of (Some r) b = reading r b
 
 -- 'The call sheet': a call whose text stands at the beginning of the buffer b, the rest of which is as it was
 abbrev pub read_into : List ℕ → Option Call → Reading

@@ -1,11 +1,9 @@
 // `begin,n,p,dec|hex|bin,upper|lower,plain|alt`.
 ghost use Rattle.std.specs.Prelude.{◌≡◌};
 ghost use Rattle.fields.specs.Fields.{fields};
-ghost use Rattle.sheet_line.specs.Begin.{format_of, digits_of, layout_of, flags_of, flag_fields, size_fields, begin_of};
-ghost use Rattle.sheet_line.specs.Begin.{sized as sized_of};
-ghost use Rattle.fields.specs.Decimal.{option_of};
+ghost use Rattle.sheet_line.specs.Begin.{format_of, digits_of, layout_of, flag_fields, size_fields, begin_line, begin_of};
 
-use fields::{Number, index_of, number, same};
+use fields::{number, split_field};
 use formatting::{FormattingFlags, HexFormatting, NumberFormatting};
 use lines::MAX_LINE;
 
@@ -14,164 +12,104 @@ pub const MAX_SIZE: usize = 4096;
 
 // How line 1 begins a run: a buffer's size, a cursor in it, and flags.
 #[derive(Clone, Copy)]
-pub enum Begin {
-    Bad,
-    BadCursor,
-    Fresh(usize, usize, FormattingFlags),
+pub struct Begin {
+    pub size: usize,
+    pub cursor: usize,
+    pub flags: FormattingFlags,
 }
 
+// Why line 1 begins no run: its form or a number above its limit, or a cursor past the buffer's end.
 #[derive(Clone, Copy)]
-pub enum Format {
-    Base(NumberFormatting),
-    NoBase,
+pub enum BadBegin {
+    Form,
+    Cursor,
 }
 
-#[derive(Clone, Copy)]
-pub enum Digits {
-    Case(HexFormatting),
-    NoCase,
-}
-
-#[derive(Clone, Copy)]
-pub enum Layout {
-    Alternate(bool),
-    NoLayout,
-}
-
-#[derive(Clone, Copy)]
-pub enum Flags {
-    Are(FormattingFlags),
-    NoFlags,
-}
-
-fn format_of(w: &[u8]) -> Format
+#[tactic(auto, using(crate::proofs::Words::words), unfolding(crate::specs::Begin::format_of))]
+fn format_of(w: &[u8]) -> Option<NumberFormatting>
     ensures { result ≡ format_of w.now }
 {
-    if same(w, b"dec") {
-        return Format::Base(NumberFormatting::Decimal);
+    match w {
+        b"dec" => Some(NumberFormatting::Decimal),
+        b"hex" => Some(NumberFormatting::Hexadecimal),
+        b"bin" => Some(NumberFormatting::Binary),
+        _ => None,
     }
-    if same(w, b"hex") {
-        return Format::Base(NumberFormatting::Hexadecimal);
-    }
-    if same(w, b"bin") {
-        return Format::Base(NumberFormatting::Binary);
-    }
-    Format::NoBase
 }
 
-fn digits_of(w: &[u8]) -> Digits
+#[tactic(auto, using(crate::proofs::Words::words), unfolding(crate::specs::Begin::digits_of))]
+fn digits_of(w: &[u8]) -> Option<HexFormatting>
     ensures { result ≡ digits_of w.now }
 {
-    if same(w, b"upper") {
-        return Digits::Case(HexFormatting::Upper);
+    match w {
+        b"upper" => Some(HexFormatting::Upper),
+        b"lower" => Some(HexFormatting::Lower),
+        _ => None,
     }
-    if same(w, b"lower") {
-        return Digits::Case(HexFormatting::Lower);
-    }
-    Digits::NoCase
 }
 
-fn layout_of(w: &[u8]) -> Layout
+// Whether numbers are alternate.
+#[tactic(auto, using(crate::proofs::Words::words), unfolding(crate::specs::Begin::layout_of))]
+fn layout_of(w: &[u8]) -> Option<bool>
     ensures { result ≡ layout_of w.now }
 {
-    if same(w, b"plain") {
-        return Layout::Alternate(false);
+    match w {
+        b"plain" => Some(false),
+        b"alt" => Some(true),
+        _ => None,
     }
-    if same(w, b"alt") {
-        return Layout::Alternate(true);
-    }
-    Layout::NoLayout
-}
-
-// The flags that three fields are.
-fn flags_of(b: &[u8], d: &[u8], a: &[u8]) -> Flags
-    ensures { result ≡ flags_of (format_of b.now) (digits_of d.now) (layout_of a.now) }
-{
-    let Format::Base(num_fmt) = format_of(b) else {
-        return Flags::NoFlags;
-    };
-    let Digits::Case(hex_fmt) = digits_of(d) else {
-        return Flags::NoFlags;
-    };
-    let Layout::Alternate(is_alternate) = layout_of(a) else {
-        return Flags::NoFlags;
-    };
-    Flags::Are(FormattingFlags {
-        num_fmt,
-        hex_fmt,
-        is_alternate,
-    })
 }
 
 // `dec|hex|bin,upper|lower,plain|alt`.
-fn flag_fields(s: &[u8]) -> Flags
+fn flag_fields(s: &[u8]) -> Option<FormattingFlags>
     ensures { result ≡ flag_fields (fields s.now) }
 {
-    let i = index_of(s, b',');
-    if i == s.len() {
-        return Flags::NoFlags;
+    let (format, rest) = split_field(s)?;
+    let (digits, layout) = split_field(rest)?;
+    if split_field(layout).is_some() {
+        return None;
     }
-    let rest = &s[i + 1..];
-    let j = index_of(rest, b',');
-    if j == rest.len() {
-        return Flags::NoFlags;
-    }
-    let last = &rest[j + 1..];
-    if index_of(last, b',') != last.len() {
-        return Flags::NoFlags;
-    }
-    flags_of(&s[0..i], &rest[0..j], last)
-}
-
-fn sized(n: Number, p: Number, f: Flags) -> Begin
-    ensures { result ≡ sized_of (option_of n) (option_of p) f }
-{
-    let Number::Is(size) = n else {
-        return Begin::Bad;
-    };
-    let Number::Is(at) = p else {
-        return Begin::Bad;
-    };
-    let Flags::Are(flags) = f else {
-        return Begin::Bad;
-    };
-    if size < at {
-        return Begin::BadCursor;
-    }
-    Begin::Fresh(size as usize, at as usize, flags)
+    Some(FormattingFlags {
+        num_fmt: format_of(format)?,
+        hex_fmt: digits_of(digits)?,
+        is_alternate: layout_of(layout)?,
+    })
 }
 
 // `n,p` and the flags.
-fn size_fields(s: &[u8]) -> Begin
+fn size_fields(s: &[u8]) -> Option<Begin>
     ensures { result ≡ size_fields (fields s.now) }
 {
-    let i = index_of(s, b',');
-    if i == s.len() {
-        return Begin::Bad;
+    let (size, rest) = split_field(s)?;
+    let (cursor, flags) = split_field(rest)?;
+    Some(Begin {
+        size: number(size, MAX_SIZE as u64)? as usize,
+        cursor: number(cursor, u64::MAX)? as usize,
+        flags: flag_fields(flags)?,
+    })
+}
+
+// What line 1 says, wherever its cursor is.
+#[tactic(auto, using(crate::proofs::Words::words), unfolding(crate::specs::Begin::begin_line))]
+fn begin_line(l: &[u8]) -> Option<Begin>
+    ensures { result ≡ begin_line l.now }
+{
+    if MAX_LINE < l.len() {
+        return None;
     }
-    let rest = &s[i + 1..];
-    let j = index_of(rest, b',');
-    if j == rest.len() {
-        return Begin::Bad;
+    match split_field(l)? {
+        (b"begin", sizes) => size_fields(sizes),
+        _ => None,
     }
-    let n = number(&s[0..i], MAX_SIZE as u64);
-    let p = number(&rest[0..j], u64::MAX);
-    sized(n, p, flag_fields(&rest[j + 1..]))
 }
 
 // How line 1 begins a run.
-pub fn parse_begin(l: &[u8]) -> Begin
+pub fn parse_begin(l: &[u8]) -> Result<Begin, BadBegin>
     ensures { result ≡ begin_of l.now }
 {
-    if MAX_LINE < l.len() {
-        return Begin::Bad;
+    let begin = begin_line(l).ok_or(BadBegin::Form)?;
+    if begin.size < begin.cursor {
+        return Err(BadBegin::Cursor);
     }
-    let i = index_of(l, b',');
-    if i == l.len() {
-        return Begin::Bad;
-    }
-    if !same(&l[0..i], b"begin") {
-        return Begin::Bad;
-    }
-    size_fields(&l[i + 1..])
+    Ok(begin)
 }

@@ -6,15 +6,14 @@ mod begin;
 mod numbers;
 mod texts;
 
-ghost use Rattle.std.specs.Prelude.{◌≡◌, [], ◌*◌, ◌≤◌, length};
-ghost use Rattle.formatter.specs.Calls.{call_of};
-ghost use Rattle.sheet_line.specs.Line.{one_field, open_bare, two_fields, open_named, three_fields, call_fields, call_of_line};
+ghost use Rattle.std.specs.Prelude.{◌≡◌, List, ℕ, [], ◌*◌, ◌≤◌, length};
+ghost use Rattle.sheet_line.specs.Line.{one_field, open_bare, two_fields, open_named, typed_call, three_fields, call_fields, call_of_line};
 ghost use Rattle.fields.specs.Fields.{fields};
-ghost use Rattle.sheet_line.specs.Reading.{reading, read_into};
+ghost use Rattle.sheet_line.specs.Reading.{call_in, reading, reading_of, read_into};
 
-pub use begin::{Begin, MAX_SIZE, parse_begin};
+pub use begin::{BadBegin, Begin, MAX_SIZE, parse_begin};
 use calls::Kind;
-use fields::{index_of, same};
+use fields::split_field;
 use formatter::Op;
 use lines::MAX_LINE;
 use numbers::{char_op, int_type, num_op};
@@ -30,119 +29,116 @@ pub struct Parsed {
     pub len: usize,
 }
 
-fn without_text(op: Op) -> Parsed
-    ensures { (result.op ≡ op) × (result.len ≡ 0) }
+// A call without a text.
+fn without_text(op: Option<Op>) -> Option<Parsed>
+    ensures { (b : List ℕ) → reading_of result b ≡ read_into b (call_in op []) }
 {
-    Parsed { op, len: 0 }
+    Some(Parsed { op: op?, len: 0 })
 }
 
 // `field` (tuple), `entry`, `finish`.
-fn one_field(w: &[u8]) -> Op
-    ensures { call_of result [] ≡ one_field w.now }
+#[tactic(auto, using(crate::proofs::Words::words), unfolding(crate::specs::Line::one_field))]
+fn one_field(w: &[u8]) -> Option<Op>
+    ensures { call_in result [] ≡ one_field w.now }
 {
-    if same(w, b"field") {
-        return Op::Place(PlaceKind::Item);
+    match w {
+        b"field" => Some(Op::Place(PlaceKind::Item)),
+        b"entry" => Some(Op::Place(PlaceKind::Entry)),
+        b"finish" => Some(Op::Finish),
+        _ => None,
     }
-    if same(w, b"entry") {
-        return Op::Place(PlaceKind::Entry);
-    }
-    if same(w, b"finish") {
-        return Op::Finish;
-    }
-    Op::Nothing
 }
 
 // `open,list|set`.
-fn open_bare(k: &[u8]) -> Op
-    ensures { call_of result [] ≡ open_bare k.now }
+#[tactic(auto, using(crate::proofs::Words::words), unfolding(crate::specs::Line::open_bare))]
+fn open_bare(k: &[u8]) -> Option<Op>
+    ensures { call_in result [] ≡ open_bare k.now }
 {
-    if same(k, b"list") {
-        return Op::Open(Kind::List);
+    match k {
+        b"list" => Some(Op::Open(Kind::List)),
+        b"set" => Some(Op::Open(Kind::Set)),
+        _ => None,
     }
-    if same(k, b"set") {
-        return Op::Open(Kind::Set);
-    }
-    Op::Nothing
 }
 
 // `open,list|set`, `field,HEX` (struct), `str,HEX`, `quoted,HEX`, `char,CODE`.
-fn two_fields(w: &[u8], a: &[u8], text: &mut [u8]) -> Parsed
+#[tactic(auto, using(crate::proofs::Words::words), unfolding(crate::specs::Line::two_fields))]
+fn two_fields(w: &[u8], a: &[u8], text: &mut [u8]) -> Option<Parsed>
     requires { length a.now ≤ 2 * length text.old }
-    ensures { reading result text.new ≡ read_into text.old (two_fields w.now a.now) }
+    ensures { reading_of result text.new ≡ read_into text.old (two_fields w.now a.now) }
 {
-    if same(w, b"open") {
-        return without_text(open_bare(a));
+    match w {
+        b"open" => without_text(open_bare(a)),
+        b"field" => with_text(TextCall::Field, a, text),
+        b"str" => with_text(TextCall::Str(Form::Display), a, text),
+        b"quoted" => with_text(TextCall::Str(Form::Debug), a, text),
+        b"char" => without_text(char_op(a)),
+        _ => None,
     }
-    if same(w, b"field") {
-        return with_text(TextCall::Field, a, text);
-    }
-    if same(w, b"str") {
-        return with_text(TextCall::Str(Form::Display), a, text);
-    }
-    if same(w, b"quoted") {
-        return with_text(TextCall::Str(Form::Debug), a, text);
-    }
-    if same(w, b"char") {
-        return without_text(char_op(a));
-    }
-    without_text(Op::Nothing)
 }
 
 // `open,struct|tuple,HEX`.
-fn open_named(k: &[u8], a: &[u8], text: &mut [u8]) -> Parsed
+#[tactic(auto, using(crate::proofs::Words::words), unfolding(crate::specs::Line::open_named))]
+fn open_named(k: &[u8], a: &[u8], text: &mut [u8]) -> Option<Parsed>
     requires { length a.now ≤ 2 * length text.old }
-    ensures { reading result text.new ≡ read_into text.old (open_named k.now a.now) }
+    ensures { reading_of result text.new ≡ read_into text.old (open_named k.now a.now) }
 {
-    if same(k, b"struct") {
-        return with_text(TextCall::Open(Kind::Struct), a, text);
+    match k {
+        b"struct" => with_text(TextCall::Open(Kind::Struct), a, text),
+        b"tuple" => with_text(TextCall::Open(Kind::Tuple), a, text),
+        _ => None,
     }
-    if same(k, b"tuple") {
-        return with_text(TextCall::Open(Kind::Tuple), a, text);
-    }
-    without_text(Op::Nothing)
+}
+
+// `num,u8,7`.
+fn num(t: &[u8], s: &[u8]) -> Option<Op>
+    ensures { call_in result [] ≡ typed_call t.now s.now }
+{
+    num_op(int_type(t)?, s)
 }
 
 // `open,struct|tuple,HEX`, `num,u8,7`.
-fn three_fields(w: &[u8], a: &[u8], b: &[u8], text: &mut [u8]) -> Parsed
+#[tactic(auto, using(crate::proofs::Words::words), unfolding(crate::specs::Line::three_fields))]
+fn three_fields(w: &[u8], a: &[u8], b: &[u8], text: &mut [u8]) -> Option<Parsed>
     requires { length b.now ≤ 2 * length text.old }
-    ensures { reading result text.new ≡ read_into text.old (three_fields w.now a.now b.now) }
+    ensures { reading_of result text.new ≡ read_into text.old (three_fields w.now a.now b.now) }
 {
-    if same(w, b"open") {
-        return open_named(a, b, text);
+    match w {
+        b"open" => open_named(a, b, text),
+        b"num" => without_text(num(a, b)),
+        _ => None,
     }
-    if same(w, b"num") {
-        return without_text(num_op(int_type(a), b));
-    }
-    without_text(Op::Nothing)
 }
 
-fn line_fields(l: &[u8], text: &mut [u8]) -> Parsed
+// The call that the fields of a line are.
+fn line_fields(l: &[u8], text: &mut [u8]) -> Option<Parsed>
     requires { length l.now ≤ 2 * length text.old }
-    ensures { reading result text.new ≡ read_into text.old (call_fields (fields l.now)) }
+    ensures { reading_of result text.new ≡ read_into text.old (call_fields (fields l.now)) }
 {
-    let i = index_of(l, b',');
-    if i == l.len() {
+    let Some((word, rest)) = split_field(l) else {
         return without_text(one_field(l));
+    };
+    let Some((first, rest)) = split_field(rest) else {
+        return two_fields(word, rest, text);
+    };
+    match split_field(rest) {
+        Some(_) => None,
+        None => three_fields(word, first, rest, text),
     }
-    let rest = &l[i + 1..];
-    let j = index_of(rest, b',');
-    if j == rest.len() {
-        return two_fields(&l[0..i], rest, text);
-    }
-    let last = &rest[j + 1..];
-    if index_of(last, b',') != last.len() {
-        return without_text(Op::Nothing);
-    }
-    three_fields(&l[0..i], &rest[0..j], last, text)
 }
 
 // The call that a line means. Its text stands at the beginning of `text`, the rest of which is left
 // as it is.
+#[tactic(auto, using(std::proofs::lemmas::Bool::Decides::nat_tests), unfolding(crate::specs::Line::call_of_line))]
 pub fn parse_line(l: &[u8], text: &mut [u8; 2048]) -> Parsed
     ensures { reading result text.new ≡ read_into text.old (call_of_line l.now) }
 {
+    let no_call = Parsed {
+        op: Op::Nothing,
+        len: 0,
+    };
     if MAX_LINE < l.len() {
-        return without_text(Op::Nothing);
+        return no_call;
     }
-    line_fields(l, text)
+    line_fields(l, text).unwrap_or(no_call)
 }

@@ -1,13 +1,12 @@
 // Calls whose text a line gives in HEX.
-ghost use Rattle.std.specs.Prelude.{◌≡◌, List, ℕ, ◌*◌, ◌≤◌, length};
-ghost use Rattle.std.proofs.Math.Option.{some, map};
-ghost use Rattle.formatter.specs.Calls.{call_of};
+ghost use Rattle.std.specs.Prelude.{◌≡◌, List, ℕ, Some, ◌*◌, ◌≤◌, length};
+ghost use Rattle.std.specs.Option.{option_map};
 ghost use Rattle.fields.specs.Hex.{from_hex};
-ghost use Rattle.sheet_line.specs.Reading.{with_text, reading, read_into};
+ghost use Rattle.sheet_line.specs.Reading.{call_in, with_text, reading_of, read_into};
 
 use crate::Parsed;
 use calls::Kind;
-use fields::{HexBytes, from_hex};
+use fields::from_hex;
 use formatter::Op;
 use utils::Range;
 use value_writes::{Form, PVariant};
@@ -23,7 +22,7 @@ pub enum TextCall {
 
 // The call, where its text has len bytes.
 fn op_with(t: TextCall, len: usize) -> Op
-    ensures { (s : List ℕ) → len ≡ length s → call_of result s ≡ some (with_text t s) }
+    ensures { (s : List ℕ) → len ≡ length s → call_in (Some result) s ≡ Some (with_text t s) }
 {
     match t {
         TextCall::Open(k) => Op::Open(k),
@@ -33,18 +32,13 @@ fn op_with(t: TextCall, len: usize) -> Op
 }
 
 // Reads the text to the beginning of a buffer.
-pub(crate) fn with_text(t: TextCall, a: &[u8], text: &mut [u8]) -> Parsed
+pub(crate) fn with_text(t: TextCall, a: &[u8], text: &mut [u8]) -> Option<Parsed>
     requires { length a.now ≤ 2 * length text.old }
-    ensures { reading result text.new ≡ read_into text.old (map (with_text t) (from_hex a.now)) }
+    ensures { reading_of result text.new ≡ read_into text.old (option_map (with_text t) (from_hex a.now)) }
 {
-    match from_hex(a, text) {
-        HexBytes::Are(len) => Parsed {
-            op: op_with(t, len),
-            len,
-        },
-        HexBytes::NotHex => Parsed {
-            op: Op::Nothing,
-            len: 0,
-        },
-    }
+    let len = from_hex(a, text)?;
+    Some(Parsed {
+        op: op_with(t, len),
+        len,
+    })
 }

@@ -2,7 +2,8 @@
 use mathlib.Core.Bool.{Bool, true, false, cond}
 use mathlib.Core.Path.{◌≡◌, refl, ap, ◌∙◌}
 use mathlib.Core.List.{List, [], ◌∷◌, ◌++◌, append_assoc, append-nil}
-use mathlib.Core.Option.{Option, none, some}
+use Rattle.std.specs.Prelude.{Option, Some, None, Ok, Err}
+use Rattle.std.proofs.lemmas.Option.{none-some, same_Some}
 use Prim.Native.Nat.{ℕ, suc, ◌+◌, ◌-◌, ◌*◌, ◌^◌, ◌≤◌}
 use native.Mathlib.Numerals.{add-one}
 use native.Mathlib.Omega.{arith}
@@ -14,12 +15,12 @@ use Rattle.str_writer.specs.declared.piece.Written.{Written}
 use Rattle.str_writer.specs.Write.{Outcome, outcome, splice, put}
 use Rattle.fields.proofs.Cells.{put-fits}
 use Rattle.formatting.specs.Bytes.{bytes}
-use Rattle.fields.specs.Fields.{same, fields}
+use Rattle.fields.specs.Fields.{fields}
+use Rattle.std.specs.Str.{bytes_eq}
 use Rattle.fields.specs.Decimal.{decimal_of, up_to}
-use Rattle.sheet_line.specs.declared.begin.Begin.TheVariants.{Bad, BadCursor, Fresh}
-use Rattle.sheet_line.specs.declared.begin.Flags.{Flags}
-use Rattle.sheet_line.specs.declared.begin.Flags.TheVariants.{Are, NoFlags}
-use Rattle.sheet_line.specs.Begin.{sized, flag_fields, size_fields, begin_fields, begin_of}
+use Rattle.sheet_line.specs.declared.begin.Begin.{Begin}
+use Rattle.sheet_line.specs.declared.begin.BadBegin.TheVariants.{Form, Cursor}
+use Rattle.sheet_line.specs.Begin.{begun, flag_fields, size_fields, begin_fields, begin_line, sized, begin_of}
 use Rattle.formatting.specs.declared.flags.FormattingFlags.{FormattingFlags}
 use Rattle.sheet_line.specs.Line.{call_of_line}
 use Rattle.sheet.specs.Sheet.{Sheet, fresh_sheet, bad_text, refused_text, end_text, stepped}
@@ -49,49 +50,55 @@ answers-over S T l out after at t w o e p h k =
     let n = text-end out at t w after p (omega arith) in
     record { prints = λ ls. rw (o, e ls, append-nil (take w.at after)) (text-told out at t w after p (omega arith)); short = omega arith }
 
-pub begin_bad : (l : List ℕ) → begin_of l ≡ Bad → (ls : List (List ℕ)) → left first (l ∷ ls) ≡ bad_text 1
+pub begin_bad : (l : List ℕ) → begin_of l ≡ Err Form → (ls : List (List ℕ)) → left first (l ∷ ls) ≡ bad_text 1
 begin_bad l e ls = rw e
 
-pub begin-refused : (l : List ℕ) → begin_of l ≡ BadCursor → (ls : List (List ℕ)) → left first (l ∷ ls) ≡ refused_text
+pub begin-refused : (l : List ℕ) → begin_of l ≡ Err Cursor → (ls : List (List ℕ)) → left first (l ∷ ls) ≡ refused_text
 begin-refused l e ls = rw e
 
 -- a line that begins the runs
-pub answers-fresh : (l out : List ℕ) (at n p : ℕ) (f : FormattingFlags) (T : Stage) → begin_of l ≡ Fresh n p f → T ≡ later 2 (fresh_sheet (replicate n 0) p (record { flags = f })) → Answers first T l out out at at
+pub answers-fresh : (l out : List ℕ) (at n p : ℕ) (f : FormattingFlags) (T : Stage) → begin_of l ≡ Ok (record { size = n; cursor = p; flags = f }) → T ≡ later 2 (fresh_sheet (replicate n 0) p (record { flags = f })) → Answers first T l out out at at
 answers-fresh l out at n p f T e q = record { prints = λ ls. rw (e, q); short = omega arith }
 
 -- `begin` has n at most 4,096
-module _ (n p : ℕ) (f : FormattingFlags) where
-  limit_number : (d o : Option ℕ) (x : Flags) → sized (up_to 4096 d) o x ≡ Fresh n p f → n ≤ 4096
-  limit_number none o x e = absurd (let z : ◌≡◌ {A = ℕ} 0 1 = cc in omega arith)
-  limit_number (some m) o x e = by_test (leb m 4096) refl o x e
+module _ (b : Begin) where
+  limit_number : (d o : Option ℕ) (x : Option FormattingFlags) → begun (up_to 4096 d) o x ≡ Some b → b.size ≤ 4096
+  limit_number None o x e = absurd (none-some b e)
+  limit_number (Some m) o x e = by_test (leb m 4096) refl o x e
     where
-      by_order : (k : ℕ) (g : FormattingFlags) (t : Bool) → m ≤ 4096 → cond t BadCursor (Fresh m k g) ≡ Fresh n p f → n ≤ 4096
-      by_order k g true h e = absurd (let z : ◌≡◌ {A = ℕ} 0 1 = cc in omega arith)
-      by_order k g false h e = let y : m ≡ n = cc in omega arith
+      by_test : (t : Bool) → leb m 4096 ≡ t → (o : Option ℕ) (x : Option FormattingFlags) → begun (cond t (Some m) None) o x ≡ Some b → b.size ≤ 4096
+      by_test false q o x e = absurd (none-some b e)
+      by_test true q None x e = absurd (none-some b e)
+      by_test true q (Some k) None e = absurd (none-some b e)
+      by_test true q (Some k) (Some g) e =
+          let y : m ≡ b.size = ap (λ (a : Begin). a.size) (same_Some (record { size = m; cursor = k; flags = g }) b e) in
+          omega (arith, leb-true m 4096 q)
 
-      by_test : (t : Bool) → leb m 4096 ≡ t → (o : Option ℕ) (x : Flags) → sized (cond t (some m) none) o x ≡ Fresh n p f → n ≤ 4096
-      by_test false q o x e = absurd (let z : ◌≡◌ {A = ℕ} 0 1 = cc in omega arith)
-      by_test true q none x e = absurd (let z : ◌≡◌ {A = ℕ} 0 1 = cc in omega arith)
-      by_test true q (some k) NoFlags e = absurd (let z : ◌≡◌ {A = ℕ} 0 1 = cc in omega arith)
-      by_test true q (some k) (Are g) e = by_order k g (ltb m k) (leb-true m 4096 q) e
+  limit_sizes : (fs : List (List ℕ)) → size_fields fs ≡ Some b → b.size ≤ 4096
+  limit_sizes [] e = absurd (none-some b e)
+  limit_sizes (n ∷ []) e = absurd (none-some b e)
+  limit_sizes (n ∷ p ∷ fs) e = limit_number (decimal_of n) (up_to (2 ^ 64 - 1) (decimal_of p)) (flag_fields fs) e
 
-  limit_sizes : (fs : List (List ℕ)) → size_fields fs ≡ Fresh n p f → n ≤ 4096
-  limit_sizes [] e = absurd (let z : ◌≡◌ {A = ℕ} 0 1 = cc in omega arith)
-  limit_sizes (a ∷ []) e = absurd (let z : ◌≡◌ {A = ℕ} 0 1 = cc in omega arith)
-  limit_sizes (a ∷ b ∷ fs) e = limit_number (decimal_of a) (up_to (2 ^ 64 - 1) (decimal_of b)) (flag_fields fs) e
-
-  limit_word : (t : Bool) (fs : List (List ℕ)) → cond t (size_fields fs) Bad ≡ Fresh n p f → n ≤ 4096
+  limit_word : (t : Bool) (fs : List (List ℕ)) → cond t (size_fields fs) None ≡ Some b → b.size ≤ 4096
   limit_word true fs e = limit_sizes fs e
-  limit_word false fs e = absurd (let z : ◌≡◌ {A = ℕ} 0 1 = cc in omega arith)
+  limit_word false fs e = absurd (none-some b e)
 
-  limit_line : (t : Bool) (fs : List (List ℕ)) → cond t Bad (begin_fields fs) ≡ Fresh n p f → n ≤ 4096
-  limit_line true fs e = absurd (let z : ◌≡◌ {A = ℕ} 0 1 = cc in omega arith)
-  limit_line false [] e = absurd (let z : ◌≡◌ {A = ℕ} 0 1 = cc in omega arith)
-  limit_line false (w ∷ fs) e = limit_word (same w (bytes "begin")) fs e
+  limit_line : (t : Bool) (fs : List (List ℕ)) → cond t None (begin_fields fs) ≡ Some b → b.size ≤ 4096
+  limit_line true fs e = absurd (none-some b e)
+  limit_line false [] e = absurd (none-some b e)
+  limit_line false (w ∷ fs) e = limit_word (bytes_eq w (bytes "begin")) fs e
 
-  pub fresh-size : (l : List ℕ) → begin_of l ≡ Fresh n p f → n ≤ 4096
-  unfolding begin_of
-  fresh-size l e = limit_line (ltb 4096 (length l)) (fields l) e
+  said : (o : Option Begin) → sized o ≡ Ok b → o ≡ Some b
+  said None e = let z : ◌≡◌ {A = ℕ} 0 1 = cc in absurd (omega arith)
+  said (Some a) e = by_test (ltb a.size a.cursor) e
+    where
+      by_test : (t : Bool) → cond t (Err Cursor) (Ok a) ≡ Ok b → Some a ≡ Some b
+      by_test true e = let z : ◌≡◌ {A = ℕ} 0 1 = cc in absurd (omega arith)
+      by_test false e = cc
+
+  pub fresh-size : (l : List ℕ) → begin_of l ≡ Ok b → b.size ≤ 4096
+  unfolding begin_line
+  fresh-size l e = limit_line (ltb 4096 (length l)) (fields l) (said (begin_line l) e)
 
 -- the stage that a state is
 module _ (h : State) (c w b : List ℕ) where

@@ -1,6 +1,5 @@
 -- The sheet as a program that answers lines: what it writes in all.
 use mathlib.Core.Bool.{Bool, true, false, ◌||◌, not}
-use mathlib.Core.Option.{none}
 use mathlib.Core.Path.{◌≡◌, refl, ap, sym, ◌∙◌}
 use mathlib.Core.List.{List, [], ◌∷◌, ◌++◌}
 use Prim.Native.Nat.{ℕ, suc, ◌+◌, ◌<◌}
@@ -9,12 +8,14 @@ use borrow.Author.Tests.{lt-ltb, ltb-true, ltb-false, leb-false}
 use lib.Dec.{ltb, leb}
 use lib.ListN.{length, take, replicate}
 use lib.Seq.{take_all, length-take-le}
+use Rattle.std.specs.Prelude.{None, Result, Ok, Err}
 use Rattle.lines.specs.Lines.{lines_of, max_line, clipped}
 use Rattle.lines.specs.Played.{joined}
 use Rattle.lines.proofs.Playing.{apart, plays_right, breaks_off_right}
 use Rattle.sheet_line.specs.declared.begin.Begin.{Begin}
-use Rattle.sheet_line.specs.declared.begin.Begin.TheVariants.{Bad, BadCursor, Fresh}
-use Rattle.sheet_line.specs.Begin.{begin_of}
+use Rattle.sheet_line.specs.declared.begin.BadBegin.{BadBegin}
+use Rattle.sheet_line.specs.declared.begin.BadBegin.TheVariants.{Form, Cursor}
+use Rattle.sheet_line.specs.Begin.{begin_line, begin_of}
 use Rattle.sheet_line.specs.Line.{call_of_line}
 use Rattle.sheet.specs.Sheet.{Sheet, fresh_sheet, stepped}
 use Rattle.sheet.specs.Printed.{printed_from, printed_after, printed_lines}
@@ -33,26 +34,26 @@ clipped-line {A} f x long l = by_test (ltb max_line (length l)) refl
         long (take (max_line + 1) l) (omega arith) ∙ sym (long l h)
     by_test false e = let h = ltb-false max_line (length l) e in ap f (take_all (max_line + 1) l (omega arith))
 
-long_begin : (l : List ℕ) → max_line < length l → begin_of l ≡ Bad
-unfolding begin_of
+long_begin : (l : List ℕ) → max_line < length l → begin_of l ≡ Err Form
+unfolding begin_line
 long_begin l h = rw (lt-ltb max_line (length l) h)
 
-long_call : (l : List ℕ) → max_line < length l → call_of_line l ≡ none
+long_call : (l : List ℕ) → max_line < length l → call_of_line l ≡ None
 unfolding call_of_line
 long_call l h = rw (lt-ltb max_line (length l) h)
 
 from-clipped : (k : ℕ) (S : Sheet) (ls : List (List ℕ)) → printed_from k S (clipped max_line ls) ≡ printed_from k S ls
 from-clipped k S [] = refl
-from-clipped k S (l ∷ ls) = rw (clipped-line call_of_line none long_call l, from-clipped (suc k) (stepped k S (call_of_line l)).sheet ls)
+from-clipped k S (l ∷ ls) = rw (clipped-line call_of_line None long_call l, from-clipped (suc k) (stepped k S (call_of_line l)).sheet ls)
 
-after-clipped : (x : Begin) (ls : List (List ℕ)) → printed_after x (clipped max_line ls) ≡ printed_after x ls
-after-clipped Bad ls = refl
-after-clipped BadCursor ls = refl
-after-clipped (Fresh n p f) ls = from-clipped 2 (fresh_sheet (replicate n 0) p (record { flags = f })) ls
+after-clipped : (x : Result Begin BadBegin) (ls : List (List ℕ)) → printed_after x (clipped max_line ls) ≡ printed_after x ls
+after-clipped (Err Form) ls = refl
+after-clipped (Err Cursor) ls = refl
+after-clipped (Ok b) ls = from-clipped 2 (fresh_sheet (replicate b.size 0) b.cursor (record { flags = b.flags })) ls
 
 lines-clipped : (ls : List (List ℕ)) → printed_lines (clipped max_line ls) ≡ printed_lines ls
 lines-clipped [] = refl
-lines-clipped (l ∷ ls) = rw (clipped-line begin_of Bad long_begin l) (after-clipped (begin_of l) ls)
+lines-clipped (l ∷ ls) = rw (clipped-line begin_of (Err Form) long_begin l) (after-clipped (begin_of l) ls)
 
 pub sheet_plays_right : SheetPlaysRight
 sheet_plays_right ins outs b p d = plays_right left max_line first ins outs b p d ∙ lines-clipped (lines_of (joined ins))

@@ -15,7 +15,7 @@ use calls::Settings;
 use formatting::FormattingFlags;
 use lines::{MAX_LINE, Reader, next_line, part};
 use sheet::{Sheet, answer_line, end_sheet, fresh, put_bad, put_refused};
-use sheet_line::{Begin, MAX_SIZE, parse_begin};
+use sheet_line::{BadBegin, Begin, MAX_SIZE, parse_begin};
 use utils::slice_up_to_len;
 
 // The most bytes that a step prints: the last line of a sheet of 4,096 bytes.
@@ -91,21 +91,27 @@ fn first_line(h: State, l: &[u8], buf: &mut [u8], out: &mut [u8], at: usize) -> 
     ensures onward { Onward h result.state }
 {
     match parse_begin(l) {
-        Begin::Bad => {
+        Err(BadBegin::Form) => {
             let w = put_bad(out, at, 1);
             Told {
                 state: stopped(h),
                 at: w.at,
             }
         }
-        Begin::BadCursor => {
+        Err(BadBegin::Cursor) => {
             let w = put_refused(out, at);
             Told {
                 state: stopped(h),
                 at: w.at,
             }
         }
-        Begin::Fresh(size, cursor, flags) => {
+        Ok(
+            Begin {
+                size,
+                cursor,
+                flags,
+            },
+        ) => {
             zero(buf, size);
             Told {
                 state: State {

@@ -4,7 +4,7 @@
 // full, and what is printed is how many bytes of the file were not read.
 #![tactic(auto)]
 
-use fields::{put_number, same};
+use fields::put_number;
 use line_input::read_more;
 use sheet_line::MAX_SIZE;
 use sheet_stream::{emptied, fed, is_due, start, step};
@@ -74,10 +74,10 @@ fn lay_name(out: &mut [u8], s: &[u8], name: &[u8]) -> usize {
 // Where the sheets behind the word `closed` or `full` are answered, so that each write fails; None
 // at another word.
 fn output_of<R: Files>(rt: &R, word: &[u8]) -> io::Result<Option<R::File>> {
-    if same(word, b"closed") {
+    if word == b"closed".as_slice() {
         return Ok(Some(File::open(rt, "/dev/null")?));
     }
-    if same(word, b"full") {
+    if word == b"full".as_slice() {
         return Ok(Some(File::create(rt, "/dev/full")?));
     }
     Ok(None)

@@ -1,6 +1,6 @@
 // Calls through the lent writer: several to a line.
 use crate::print::{put_bytes, put_cell, put_outcome, put_result};
-use fields::{HexBytes, Number, first_field, from_hex, later_fields, number};
+use fields::{first_field, from_hex, later_fields, number};
 use str_writer::Written;
 use str_writer_mut::{Truncated, write_str_then_debug, write_str_then_truncate};
 use utils::slice_up_to_len;
@@ -16,10 +16,10 @@ pub(crate) fn twice_call(
 ) -> usize {
     let mut first_space = [0u8; 72];
     let mut second_space = [0u8; 72];
-    let HexBytes::Are(n) = from_hex(first_field(arguments), &mut first_space) else {
+    let Some(n) = from_hex(first_field(arguments), &mut first_space) else {
         return 0;
     };
-    let HexBytes::Are(m) = from_hex(later_fields(arguments), &mut second_space) else {
+    let Some(m) = from_hex(later_fields(arguments), &mut second_space) else {
         return 0;
     };
     let s = slice_up_to_len(&first_space, n);
@@ -55,18 +55,18 @@ fn put_truncated(out: &mut [u8], at: usize, r: Truncated, buf: &[u8]) -> usize {
 pub(crate) fn truncate_call(rest: &[u8], out: &mut [u8], end: usize) -> usize {
     let mut buf_space = [0u8; 72];
     let mut text_space = [0u8; 72];
-    let HexBytes::Are(n) = from_hex(first_field(rest), &mut buf_space) else {
+    let Some(n) = from_hex(first_field(rest), &mut buf_space) else {
         return 0;
     };
     let later = later_fields(rest);
-    let HexBytes::Are(m) = from_hex(first_field(later), &mut text_space) else {
+    let Some(m) = from_hex(first_field(later), &mut text_space) else {
         return 0;
     };
     let lengths = later_fields(later);
-    let Number::Is(length) = number(first_field(lengths), u64::MAX) else {
+    let Some(length) = number(first_field(lengths), u64::MAX) else {
         return 0;
     };
-    let Number::Is(utf8_length) = number(later_fields(lengths), u64::MAX) else {
+    let Some(utf8_length) = number(later_fields(lengths), u64::MAX) else {
         return 0;
     };
     let len = n % 73;

@@ -9,19 +9,19 @@ mod print;
 mod texts;
 
 use cursor::cursor_call;
-use fields::{Number, first_field, later_fields, number, place_of, same};
+use fields::{first_field, later_fields, number, place_of};
 use integers::{debug_call, display_call};
 use lent::{truncate_call, twice_call};
 use line_input::read_more;
 use lines::{MAX_LINE, Reader, next_line, part};
 use print::put_result;
 use std::io::{self, Write};
-use str_writer::put;
-use texts::{Played, char_call, range_call, repeated_call, text_call};
+use str_writer::{Written, put};
+use texts::{char_call, range_call, repeated_call, text_call};
 use utils::slice_up_to_len;
 
 // Plays a write by its name.
-fn play(name: &[u8], arguments: &[u8], buf: &mut [u8], at: usize) -> Played {
+fn play(name: &[u8], arguments: &[u8], buf: &mut [u8], at: usize) -> Option<Written> {
     let k = place_of(
         name,
         b"write_str,write_str_debug,write_ascii,write_ascii_debug,\
@@ -31,26 +31,15 @@ fn play(name: &[u8], arguments: &[u8], buf: &mut [u8], at: usize) -> Played {
         write_u8_debug,write_u16_debug,write_u32_debug,write_u64_debug,\
         write_i8_debug,write_i16_debug,write_i32_debug,write_i64_debug,\
         write_char,write_char_debug,write_ascii_repeated",
-    );
-    if k < 4 {
-        return text_call(k, arguments, buf, at);
+    )?;
+    match k {
+        0..=3 => text_call(k, arguments, buf, at),
+        4..=7 => range_call(k - 4, arguments, buf, at),
+        8..=15 => display_call(k - 8, arguments, buf, at),
+        16..=23 => debug_call(k - 16, arguments, buf, at),
+        24..=25 => char_call(k - 24, arguments, buf, at),
+        _ => repeated_call(arguments, buf, at),
     }
-    if k < 8 {
-        return range_call(k - 4, arguments, buf, at);
-    }
-    if k < 16 {
-        return display_call(k - 8, arguments, buf, at);
-    }
-    if k < 24 {
-        return debug_call(k - 16, arguments, buf, at);
-    }
-    if k < 26 {
-        return char_call(k - 24, arguments, buf, at);
-    }
-    if k == 26 {
-        return repeated_call(arguments, buf, at);
-    }
-    Played::Other
 }
 
 // Plays a write, and lays the answer, the cursor and the bytes of the buffer; 0 for a line of
@@ -63,7 +52,7 @@ fn written(
     out: &mut [u8],
     end: usize,
 ) -> usize {
-    let Played::Gave(w) = play(name, arguments, buf, at) else {
+    let Some(w) = play(name, arguments, buf, at) else {
         return 0;
     };
     put_result(out, end, w, buf)
@@ -74,18 +63,17 @@ fn written(
 fn case(line: &[u8], out: &mut [u8], end: usize) -> usize {
     let name = first_field(line);
     let rest = later_fields(line);
-    let k = place_of(name, b"from_custom,truncate");
-    if k < 2 {
+    if let Some(k) = place_of(name, b"from_custom,truncate") {
         return cursor_call(k, rest, out, end);
     }
-    if same(name, b"write_str_then_truncate") {
+    if name == b"write_str_then_truncate".as_slice() {
         return truncate_call(rest, out, end);
     }
-    let Number::Is(len) = number(first_field(rest), u64::MAX) else {
+    let Some(len) = number(first_field(rest), u64::MAX) else {
         return 0;
     };
     let later = later_fields(rest);
-    let Number::Is(at) = number(first_field(later), u64::MAX) else {
+    let Some(at) = number(first_field(later), u64::MAX) else {
         return 0;
     };
     if 72 < len {
@@ -94,7 +82,7 @@ fn case(line: &[u8], out: &mut [u8], end: usize) -> usize {
     let mut dots = [b'.'; 72];
     let n = len as usize;
     let arguments = later_fields(later);
-    if same(name, b"write_str_then_debug") {
+    if name == b"write_str_then_debug".as_slice() {
         return twice_call(arguments, &mut dots[0..n], at as usize, out, end);
     }
     written(name, arguments, &mut dots[0..n], at as usize, out, end)
@@ -103,7 +91,7 @@ fn case(line: &[u8], out: &mut [u8], end: usize) -> usize {
 // Lays what a line prints: itself, a colon and what it gives; nothing for a comment, `bad` for a line
 // of another form.
 fn answer(line: &[u8], out: &mut [u8]) -> usize {
-    if same(slice_up_to_len(line, 1), b"#") {
+    if line.starts_with(b"#") {
         return 0;
     }
     let shown = put(out, 0, line);

@@ -9,27 +9,27 @@ returns-then-skips c = let a = c.args in
 
 pub overflow_add-end-then-limit-n : goal.overflow_add-end-then-limit-n
 overflow_add-end-then-limit-n c = let a = c.args in
-    let i = held-inside a.space.now a.r.from a.r.to (a.limit + 1) _ c.part-s.ensures (omega (arith, c.index_of-n.ensures.1)) (omega arith) in
+    let i = held-inside a.space.now a.r.from a.r.to (a.limit + 1) _ c.part-s.ensures (omega (arith, c.line_end-n.ensures.1)) (omega arith) in
     omega (arith, i)
 
 pub returns-then-limit-n : goal.returns-then-limit-n
 returns-then-limit-n c = let a = c.args in
-    takes_long a.limit a.r a.space.now _ _ c.if-skips.false c.part-s.ensures c.index_of-n.ensures.0 c.if-limit-n.true
+    takes_long a.limit a.r a.space.now _ _ c.if-skips.false c.part-s.ensures c.line_end-n.ensures.0 c.if-limit-n.true
 
 pub overflow_add-end-then-n-s : goal.overflow_add-end-then-n-s
 overflow_add-end-then-n-s c = let a = c.args in
-    let i = held-inside a.space.now a.r.from a.r.to (c.index_of-n.result + 1) _ c.part-s.ensures (omega arith) (omega arith) in
+    let i = held-inside a.space.now a.r.from a.r.to (c.line_end-n.result + 1) _ c.part-s.ensures (omega arith) (omega arith) in
     omega (arith, i)
 
 pub overflow_add-result : goal.overflow_add-result
 overflow_add-result c = let a = c.args in
-    let i = held-inside a.space.now a.r.from a.r.to (c.index_of-n.result + 1) _ c.part-s.ensures (omega arith) (omega arith) in
+    let i = held-inside a.space.now a.r.from a.r.to (c.line_end-n.result + 1) _ c.part-s.ensures (omega arith) (omega arith) in
     omega (arith, i)
 
 pub returns-then-n-s : goal.returns-then-n-s
 returns-then-n-s c = let a = c.args in
-    takes_whole a.limit a.r a.space.now _ _ c.if-skips.false c.part-s.ensures c.index_of-n.ensures.0 c.if-limit-n.false c.if-n-s.true
+    takes_whole a.limit a.r a.space.now _ _ c.if-skips.false c.part-s.ensures c.line_end-n.ensures.0 c.if-limit-n.false c.if-n-s.true
 
 pub returns : goal.returns
 returns c = let a = c.args in
-    takes-last a.limit a.r a.space.now _ _ c.if-skips.false c.part-s.ensures c.index_of-n.ensures.0 c.if-limit-n.false c.if-n-s.false _ c.last_line.ensures
+    takes-last a.limit a.r a.space.now _ _ c.if-skips.false c.part-s.ensures c.line_end-n.ensures.0 c.if-limit-n.false c.if-n-s.false _ c.last_line.ensures

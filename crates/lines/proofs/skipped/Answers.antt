@@ -9,21 +9,21 @@ returns-then-not-skips c = let a = c.args in skips-none a.r a.space.now (c.if-no
 pub overflow_add-result : goal.overflow_add-result
 overflow_add-result c = let a = c.args in
     let p = c.part-s in
-    let n = c.index_of-n.result in
+    let n = c.line_end-n.result in
     let i = held-inside a.space.now a.r.from a.r.to (n + 1) _ p.ensures (omega arith) (omega arith) in
     omega (arith, i)
 
 pub overflow_add-result-then-n-s : goal.overflow_add-result-then-n-s
 overflow_add-result-then-n-s c = let a = c.args in
     let p = c.part-s in
-    let n = c.index_of-n.result in
+    let n = c.line_end-n.result in
     let i = held-inside a.space.now a.r.from a.r.to (n + 1) _ p.ensures (omega arith) (omega arith) in
     omega (arith, i)
 
 pub returns-then-n-s : goal.returns-then-n-s
 returns-then-n-s c = let a = c.args in
-    skips-whole a.r a.space.now _ _ (c.if-not-skips.false) c.part-s.ensures c.index_of-n.ensures.0 c.if-n-s.true
+    skips-whole a.r a.space.now _ _ (c.if-not-skips.false) c.part-s.ensures c.line_end-n.ensures.0 c.if-n-s.true
 
 pub returns : goal.returns
 returns c = let a = c.args in
-    skips-part a.r a.space.now _ _ (c.if-not-skips.false) c.part-s.ensures c.index_of-n.ensures.0 c.if-n-s.false
+    skips-part a.r a.space.now _ _ (c.if-not-skips.false) c.part-s.ensures c.line_end-n.ensures.0 c.if-n-s.false

@@ -1,7 +1,8 @@
 use Rattle.std.proofs.Common.{ap, sym, ◌∙◌}
+use Rattle.std.specs.Prelude.{is_some}
 use Rattle.sheet_line.specs.Line.{call_of_line}
 use Rattle.sheet_line.specs.Reading.{Reading}
-use Rattle.sheet.specs.SheetView.{sheet_of, is_some, stepped_of}
+use Rattle.sheet.specs.SheetView.{sheet_of, stepped_of}
 use Rattle.sheet.proofs.Stepping.{a_call, answer-call, short-call}
 use Rattle.sheet.proofs.answer_line.Goals as goal
 

@@ -1,40 +1,30 @@
--- The loop's invariant: the rest, read on from here, gives the number that all digits make. The measure is how many bytes are left.
-use mathlib.Core.Path.{refl, sym, ◌∙◌}
-use Prim.Native.Nat.{◌+◌, ◌-◌, ◌*◌}
-use native.Mathlib.Omega.{arith}
-use lib.ListN.{drop, get_or}
-use Rattle.fields.proofs.Numbers.{above, read_next, read_low, read-high, read-end}
+use Rattle.std.proofs.Common.{sym, ◌∙◌, arith}
+use Rattle.fields.proofs.Numbers.{no_digit, digit_next, digit_above, read-end}
 use Rattle.fields.proofs.decimal.digits.Goals as goal
 
-pub loop-i-init : goal.loop-i-init
-loop-i-init c = (omega arith, omega arith, refl)
+pub returns-then-not-is_ascii_digit : goal.returns-then-not-is_ascii_digit
+returns-then-not-is_ascii_digit c =
+    no_digit c.args.s.now c.args.most _ _ c.loop-b-test.true c.loop-b.invariant.1 (sym c.is_ascii_digit.ensures.value ∙ c.if-not-is_ascii_digit.true)
 
-pub returns-then-b-lt48 : goal.returns-then-b-lt48
-returns-then-b-lt48 c = let s = c.args.s.now in
-    rw (read_low s c.loop-i.i (omega arith) c.loop-i.n c.if-b-lt48.true) at c.loop-i.invariant.2
+pub returns-in_err-checked_mul : goal.returns-in_err-checked_mul
+returns-in_err-checked_mul c =
+    c.from_residual.ensures
+    ∙ digit_above c.args.s.now c.args.most _ _ c.loop-b-test.true c.loop-b.invariant.1 (sym c.is_ascii_digit.ensures.value ∙ c.if-not-is_ascii_digit.false) (omega (arith, c.in_err-checked_mul.ensures))
 
-pub returns-then-b-gt57 : goal.returns-then-b-gt57
-returns-then-b-gt57 c = let s = c.args.s.now in
-    rw (read-high s c.loop-i.i (omega arith) c.loop-i.n c.if-b-gt57.true) at c.loop-i.invariant.2
+pub returns-in_err-n : goal.returns-in_err-n
+returns-in_err-n c =
+    c.from_residual-in_err-n.ensures
+    ∙ digit_above c.args.s.now c.args.most _ _ c.loop-b-test.true c.loop-b.invariant.1 (sym c.is_ascii_digit.ensures.value ∙ c.if-not-is_ascii_digit.false) (omega (arith, c.in_ok-checked_mul.ensures, c.in_err-n.ensures))
 
-pub returns-then-most-digit : goal.returns-then-most-digit
-returns-then-most-digit c = let a = c.args in
-    let s = a.s.now in
-    let b = get_or s c.loop-i.i 0 in
-    sym (above a.most (c.loop-i.n * 10 + (b - 48)) (drop (c.loop-i.i + 1) s) (omega arith))
-    ∙ (rw (read_next s c.loop-i.i (omega arith) c.loop-i.n (omega arith) (omega arith)) at c.loop-i.invariant.2)
+pub returns-then-most-n : goal.returns-then-most-n
+returns-then-most-n c =
+    digit_above c.args.s.now c.args.most _ _ c.loop-b-test.true c.loop-b.invariant.1 (sym c.is_ascii_digit.ensures.value ∙ c.if-not-is_ascii_digit.false) (omega (arith, c.in_ok-checked_mul.ensures, c.in_ok-n.ensures))
 
-pub returns-then-most-digit-2 : goal.returns-then-most-digit-2
-returns-then-most-digit-2 c = let a = c.args in
-    let s = a.s.now in
-    let b = get_or s c.loop-i.i 0 in
-    sym (above a.most (c.loop-i.n * 10 + (b - 48)) (drop (c.loop-i.i + 1) s) (omega arith))
-    ∙ (rw (read_next s c.loop-i.i (omega arith) c.loop-i.n (omega arith) (omega arith)) at c.loop-i.invariant.2)
-
-pub loop-i-preserved : goal.loop-i-preserved
-loop-i-preserved c = let s = c.args.s.now in
-    (omega arith, omega arith, rw (read_next s c.loop-i.i (omega arith) c.loop-i.n (omega arith) (omega arith)) at c.loop-i.invariant.2)
+pub loop-b-preserved : goal.loop-b-preserved
+loop-b-preserved c = (
+  omega arith,
+  digit_next c.args.s.now c.args.most _ _ c.loop-b-test.true c.loop-b.invariant.1 c.in_ok-n.n (sym c.is_ascii_digit.ensures.value ∙ c.if-not-is_ascii_digit.false) (omega (arith, c.in_ok-checked_mul.ensures, c.in_ok-n.ensures)),
+)
 
 pub returns : goal.returns
-returns c = let a = c.args in
-    read-end a.s.now c.loop-i.i c.loop-i.n a.most (omega arith) c.loop-i.invariant.1 ∙ c.loop-i.invariant.2
+returns c = read-end c.args.s.now c.loop-b.b-index c.loop-b.n c.args.most c.loop-b-test.false c.loop-b.invariant.0 ∙ c.loop-b.invariant.1

@@ -1,15 +1,12 @@
--- The loop's invariant: the bytes of the rest, stored from here on, give the buffer with all bytes. The measure is how many bytes are left.
-use mathlib.Core.Bool.{true}
-use mathlib.Core.Path.{◌≡◌}
-use Prim.Native.Nat.{◌-◌, ◌*◌, ◌/◌, ◌≤◌}
-use lib.ListN.{length, drop}
+-- The pairs of the rest are stored from here on.
+use Rattle.std.proofs.Common.{true, ◌≡◌, ◌+◌, ◌/◌, ◌≤◌, length}
 use Rattle.str_writer.specs.Write.{splice}
 use Rattle.fields.specs.Hex.{is_hex, hex_bytes}
 use Rattle.fields.proofs.hex.fill.Given as goal
 
 abbrev pub invariant-loop-i : goal.invariant-loop-i
-invariant-loop-i l = (l.i ≤ length l.s / 2) × (length l.s / 2 ≤ length l.out) × (length l.out ≡ length l.initial.out) × (is_hex (drop (2 * l.i) l.s) ≡ true)
-    × (splice l.out l.i (hex_bytes (drop (2 * l.i) l.s)) ≡ splice l.initial.out 0 (hex_bytes l.s))
-
-abbrev pub decreases-loop-i : goal.decreases-loop-i
-decreases-loop-i l = length l.s / 2 - l.i
+invariant-loop-i l =
+    let rest = l.i-iterator.iter.rest.now in
+    (goal.iterator-loop-i).can_next l.i-iterator × (goal.iterator-loop-i).is_finite l.i-iterator × (l.i-iterator.iter.size ≡ 2) × (is_hex rest ≡ true)
+    × (l.i-iterator.count + length rest / 2 ≤ length l.out) × (length l.out ≡ length l.initial.out)
+    × (splice l.out l.i-iterator.count (hex_bytes rest) ≡ splice l.initial.out 0 (hex_bytes l.s))

@@ -1,18 +1,12 @@
-use mathlib.Core.Path.{sym, ◌∙◌}
-use Rattle.fields.proofs.Pairs.{bytes-length, read-not, read_long, read_done}
+use Rattle.std.proofs.Common.{sym}
+use Rattle.fields.proofs.Pairs.{bytes-length, read_not, read_done}
 use Rattle.fields.proofs.hex.from_hex.Goals as goal
 
 pub returns-then-not-is_hex : goal.returns-then-not-is_hex
-returns-then-not-is_hex c = let a = c.args in
-    read-not a.out.now a.s.now (sym c.is_hex.ensures ∙ c.if-not-is_hex.true)
-
-pub returns-then-out-len : goal.returns-then-out-len
-returns-then-out-len c = let a = c.args in
-    read_long a.out.now a.s.now (sym c.is_hex.ensures ∙ c.if-not-is_hex.false) c.if-out-len.true
+returns-then-not-is_hex c = read_not c.args.out.now c.args.s.now (rw c.is_hex.ensures at c.then-not-is_hex.either)
 
 pub fill-requires : goal.fill-requires
-fill-requires c = (sym c.is_hex.ensures ∙ c.if-not-is_hex.false, rw bytes-length c.if-out-len.false)
+fill-requires c = (sym c.if-not-is_hex.ensures, rw bytes-length c.if-out-len.false)
 
 pub returns : goal.returns
-returns c = let a = c.args in
-    rw c.fill.ensures (read_done a.out.now a.s.now (sym c.is_hex.ensures ∙ c.if-not-is_hex.false) c.if-out-len.false)
+returns c = rw c.fill.ensures (read_done c.args.out.now c.args.s.now (sym c.if-not-is_hex.ensures) c.if-out-len.false)

@@ -1,8 +1,8 @@
 use Rattle.sheet_line.proofs.Readings.{text-read, not-read}
 use Rattle.sheet_line.proofs.texts.with_text.Goals as goal
 
-pub returns-in-Are : goal.returns-in-Are
-returns-in-Are c = text-read c.args.t c.args.text.now c.args.a.now c.requires _ _ c.from_hex.ensures c.in-Are.len c.op_with.result c.in-Are.is c.op_with.ensures
+pub returns-in_err-len : goal.returns-in_err-len
+returns-in_err-len c = rw c.from_residual.ensures (not-read c.args.t c.args.text.now c.args.a.now c.requires _ _ c.from_hex.ensures c.in_err-len.was)
 
-pub returns-in-NotHex : goal.returns-in-NotHex
-returns-in-NotHex c = not-read c.args.t c.args.text.now c.args.a.now c.requires _ _ c.from_hex.ensures c.in-NotHex.is
+pub returns : goal.returns
+returns c = text-read c.args.t c.args.text.now c.args.a.now c.requires _ _ c.from_hex.ensures c.in_ok-len.len c.op_with.result c.in_ok-len.was c.op_with.ensures
