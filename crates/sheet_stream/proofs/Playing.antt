@@ -50,7 +50,7 @@ after-clipped Bad ls = refl
 after-clipped BadCursor ls = refl
 after-clipped (Fresh n p f) ls = from-clipped 2 (fresh_sheet (replicate n 0) p (record { flags = f })) ls
 
-lines-clipped : (ls : List (List ℕ)) → printed_lines (clipped max_line ls) ≡ printed_lines ls
+pub lines-clipped : (ls : List (List ℕ)) → printed_lines (clipped max_line ls) ≡ printed_lines ls
 lines-clipped [] = refl
 lines-clipped (l ∷ ls) = rw (clipped-line begin_of Bad long_begin l) (after-clipped (begin_of l) ls)
 

@@ -72,11 +72,6 @@ is_due h waits = waits || (is_over h.state || leb 32768 h.printed)
 abbrev pub emptied_of : Stream → Stream
 emptied_of h = record h { printed = 0 }
 
--- 'The call sheet': after a write that was done or failed; a run whose write failed does not go on
-abbrev pub after_write : Stream → Bool → Stream
-after_write h true = emptied_of h
-after_write h false = halted_of (emptied_of h)
-
 -- 'The call sheet': what is ready stays ready while lines have numbers of 64 bits: at once where nothing is due, in a buffer of 65,536 bytes, and in any case once what is printed is written (proved in proofs/Playing)
 abbrev pub StaysReady : Type 0
 StaysReady =

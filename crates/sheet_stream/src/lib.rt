@@ -3,16 +3,19 @@
 // is awaited.
 #![tactic(auto)]
 
+mod program;
+
 ghost use Rattle.std.specs.Prelude.{true, false, IsTrue, ◌↔◌, ◌≡◌, List, [], ◌++◌, ℕ, ◌+◌, ◌≤◌, length, take, replicate};
 ghost use Rattle.lines.specs.Played.{begins};
 ghost use Rattle.sheet_line.specs.Begin.{max_size};
 ghost use Rattle.sheet.specs.Sheet.{max_row, max_end};
 ghost use Rattle.sheet_stream.specs.declared.State.TheVariants.{First};
 ghost use Rattle.sheet_stream.specs.Left.{first, left, stage_of, Answers};
-ghost use Rattle.sheet_stream.specs.Step.{at_of, Sized, Onward, Ready, Halts, Stepped, is_over, is_due, after_write};
+ghost use Rattle.sheet_stream.specs.Step.{at_of, Sized, Onward, Ready, Halts, Stepped, is_over, is_due};
 
 use calls::Settings;
 use lines::{MAX_LINE, Reader};
+pub use program::play;
 use sheet::{Sheet, put_bad, put_refused};
 use sheet_line::{Begin, MAX_SIZE, parse_begin};
 use utils::slice_up_to_len;
@@ -214,15 +217,5 @@ impl Stream {
         ensures { result ≡ is_due self.now waits }
     {
         waits || self.state.is_over() || 32768 <= self.printed
-    }
-
-    // After a write: nothing is left to be written; a run whose write failed does not go on.
-    pub fn written(&mut self, done: bool)
-        ensures { self.new ≡ after_write self.old done }
-    {
-        self.printed = 0;
-        if !done {
-            self.state = State::Over;
-        }
     }
 }

@@ -1,3 +1,4 @@
+use Rattle.std.proofs.Common.{rules}
 use Rattle.sheet_stream.proofs.Stepping.{step_line, step_wait, step_end}
 use Rattle.sheet_stream.proofs.Stream.step_on.Goals as goal
 
@@ -8,4 +9,4 @@ pub returns-then-not-self : goal.returns-then-not-self
 returns-then-not-self c = step_wait c.args.self.now _ _ _ _ c.requires c.in_default.ensures c.if-not-self.true
 
 pub returns : goal.returns
-returns c = step_end c.args.self.now _ _ _ _ c.requires _ _ c.in_default.ensures c.if-not-self.false _ c.end-self.ensures.printed c.end-self.ensures.short
+returns c = step_end c.args.self.now _ _ _ _ c.requires _ _ c.in_default.ensures c.if-not-self.false _ (search rules) (search rules)
