@@ -1,10 +1,14 @@
-// More of an input, read behind the bytes that are held (document 01, 'The call sheet').
+// More of an input, read behind the bytes that are held (document 01, 'The call sheet'); and the loop
+// of a program that answers the lines of its input.
 #![tactic(auto)]
+
+mod program;
 
 ghost use Rattle.std.specs.Io.KnownBytes.{Consumes};
 ghost use Rattle.lines.specs.Reading.{More};
 
 use lines::Reader;
+pub use program::{LineProgram, answer_lines};
 use std::io::Read;
 
 // Moves the bytes that are held to the beginning of the buffer and reads once behind them. Where

@@ -8,6 +8,7 @@ use Rattle.lines.specs.Lines.{lines_of, clipped, max_line}
 use Rattle.lines.specs.Reading.{held_of, ahead, MayFollow, More}
 use Rattle.lines.specs.Played.{At, remains, begins, Onward, answers, ends, awaits, Steps}
 use Rattle.lines.proofs.Playing.{apart}
+use Rattle.line_input.proofs.Going.{consumes_none, consumes-then, appends_none, appends-then}
 use Rattle.sheet.specs.Printed.{printed}
 use Rattle.sheet_stream.specs.declared.State.{State}
 use Rattle.sheet_stream.specs.declared.State.TheVariants.{First, Later, Over}
@@ -23,26 +24,6 @@ pub record Going (R₀ R W₀ W : Option (List ℕ)) (a : At Stage) : Type 0 whe
   pub consumes : Consumes R₀ R read
   pub appends : Appends W₀ W written
   pub right : (rest : List ℕ) → MayFollow a.ended rest → written ++ remains left max_line a rest ≡ left first (clipped max_line (lines_of (read ++ rest)))
-
-consumes_none : (R : Option (List ℕ)) → Consumes R R []
-consumes_none None = tt
-consumes_none (Some x) = refl
-
-consumes-then : (A B C : Option (List ℕ)) (x y : List ℕ) → Consumes A B x → Consumes B C y → Consumes A C (x ++ y)
-consumes-then None B C x y p q = tt
-consumes-then (Some a) None C x y p q = elim p [ ]
-consumes-then (Some a) (Some b) None x y p q = elim q [ ]
-consumes-then (Some a) (Some b) (Some c) x y p q = p ∙ ap (λ z. x ++ z) q ∙ sym (append_assoc x y c)
-
-appends_none : (W : Option (List ℕ)) → Appends W W []
-appends_none None = tt
-appends_none (Some x) = sym (append-nil x)
-
-appends-then : (A B C : Option (List ℕ)) (x y : List ℕ) → Appends A B x → Appends B C y → Appends A C (x ++ y)
-appends-then None B C x y p q = tt
-appends-then (Some a) None C x y p q = elim p [ ]
-appends-then (Some a) (Some b) None x y p q = elim q [ ]
-appends-then (Some a) (Some b) (Some c) x y p q = q ∙ ap (λ z. z ++ y) p ∙ append_assoc a x y
 
 pub going-begins : (R W : Option (List ℕ)) (a : At Stage) → a ≡ begins first → Going R R W W a
 going-begins R W a e = rw e (record { read = []; written = []; consumes = consumes_none R; appends = appends_none W; right = λ rest m. refl })
