@@ -1,6 +1,6 @@
 -- The sheet as a program that reads and writes: what it has written, and what then remains, is what is to be printed for what it has read.
 use Rattle.std.specs.Prelude.{Option}
-use Rattle.std.proofs.Common.{◌≡◌, refl, sym, ◌∙◌, ap, Bool, true, false, ℕ, List, [], ◌++◌, take, None, Some}
+use Rattle.std.proofs.Common.{◌≡◌, refl, sym, ◌∙◌, ap, Bool, true, false, ℕ, List, [], ◌++◌, take}
 use Rattle.std.specs.Io.KnownBytes.{Consumes, Appends}
 use mathlib.Core.List.{append_assoc, append-nil}
 use Rattle.lines.specs.declared.Reader.{Reader}
