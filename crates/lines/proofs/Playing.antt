@@ -5,9 +5,8 @@ use mathlib.Core.List.{List, [], ◌∷◌, ◌++◌, append_assoc, append-nil}
 use Prim.Native.Nat.{ℕ}
 use native.Mathlib.Omega.{arith}
 use Rattle.lines.specs.declared.Reader.{Reader}
-use Rattle.lines.specs.declared.Taken.{Taken}
 use Rattle.lines.specs.Lines.{lines_of, clipped}
-use Rattle.lines.specs.Reading.{held, ahead, ahead_of, MayFollow, Takes}
+use Rattle.lines.specs.Reading.{ahead, ahead_of, MayFollow, TakesLine, TakesNone}
 use Rattle.lines.specs.Played.{At, standing, remains, Over, answers, ends, awaits, Steps, joined, Plays, rests, steps, reads, writes, PlaysRight, BreaksOffRight, MorePlays}
 
 pub apart : (t : Bool) → t ≡ true → t ≡ false → ⊥
@@ -41,30 +40,31 @@ module _ {S : Type 0} (left : S → List (List ℕ) → List ℕ) (limit : ℕ) 
   more_plays s r k before after p m b ins outs e q = rw e (reads m.piece k.ended m.last (rw (m.bytes, m.skips) at q))
 
   -- what a program does with what the reader gives
-  module _ (s : S) (r : Reader) (t : Taken) (b p : List ℕ) (k : Takes limit r t b) where
+  module _ (s : S) (r k : Reader) (b p : List ℕ) where
     -- it answers a line
-    pub line-steps : t.is_line ≡ true → (s' : S) (p' : List ℕ) → ((ls : List (List ℕ)) → p' ++ left s' ls ≡ p ++ left s (held t.start t.end b ∷ ls)) → Steps left limit false (standing s r b p) (standing s' t.reader b p')
-    line-steps e s' p' f =
+    pub line-steps : (l : List ℕ) → TakesLine limit r k l b → (s' : S) (p' : List ℕ) → ((ls : List (List ℕ)) → p' ++ left s' ls ≡ p ++ left s (l ∷ ls)) → Steps left limit false (standing s r b p) (standing s' k b p')
+    line-steps l t s' p' f =
         record {
-          prints = λ rest m. f (ahead_of limit t.reader b rest) ∙ ap (λ (ls : List (List ℕ)). p ++ left s ls) (sym (k.line e rest m));
-          ended = k.ended;
-          onward = answers (k.fewer e);
+          prints = λ rest m. f (ahead_of limit k b rest) ∙ ap (λ (ls : List (List ℕ)). p ++ left s ls) (sym (t.line rest m));
+          ended = t.ended;
+          onward = answers t.fewer;
         }
 
-    -- it waits for more
-    pub wait_steps : t.is_line ≡ false → r.ended ≡ false → Steps left limit true (standing s r b p) (standing s t.reader b p)
-    wait_steps e h =
-        record {
-          prints = λ rest m. ap (λ (ls : List (List ℕ)). p ++ left s ls) (sym (k.same e rest));
-          ended = k.ended;
-          onward = awaits (k.waits e) h;
-        }
+    module _ (t : TakesNone limit r k b) where
+      -- it waits for more
+      pub wait_steps : r.ended ≡ false → Steps left limit true (standing s r b p) (standing s k b p)
+      wait_steps h =
+          record {
+            prints = λ rest m. ap (λ (ls : List (List ℕ)). p ++ left s ls) (sym (t.same rest));
+            ended = t.ended;
+            onward = awaits t.waits h;
+          }
 
-    -- it ends with its input
-    pub end-steps : t.is_line ≡ false → r.ended ≡ true → (s' : S) (p' : List ℕ) → Over left s' → p' ≡ p ++ left s [] → Steps left limit false (standing s r b p) (standing s' t.reader b p')
-    end-steps e h s' p' o f =
-        record {
-          prints = λ rest m. rw (o (ahead_of limit t.reader b rest), append-nil p', m h) (f ∙ ap (λ (ls : List (List ℕ)). p ++ left s ls) (sym (k.none e h)));
-          ended = k.ended;
-          onward = ends o;
-        }
+      -- it ends with its input
+      pub end-steps : r.ended ≡ true → (s' : S) (p' : List ℕ) → Over left s' → p' ≡ p ++ left s [] → Steps left limit false (standing s r b p) (standing s' k b p')
+      end-steps h s' p' o f =
+          record {
+            prints = λ rest m. rw (o (ahead_of limit k b rest), append-nil p', m h) (f ∙ ap (λ (ls : List (List ℕ)). p ++ left s ls) (sym (t.none h)));
+            ended = t.ended;
+            onward = ends o;
+          }

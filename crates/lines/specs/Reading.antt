@@ -1,7 +1,7 @@
 -- Document 01, 'The call sheet': what the bytes that are held of an input say about its lines, whatever is read later.
-use Rattle.std.specs.Prelude.{Bool, true, false, cond, not, ◌&&◌, ◌≡◌, List, [], ◌∷◌, ◌++◌, ℕ, ◌-◌, ◌≤◌, ◌<◌, eqb, length, take, drop}
+use Rattle.std.specs.Prelude.{Bool, true, false, cond, ◌==◌, ◌≡◌, Option, MatchOption, position, List, [], ◌∷◌, ◌++◌, ℕ, ◌-◌, ◌≤◌, ◌<◌, length, take, drop}
+use Rattle.std.specs.Borrow.{Bor}
 use Rattle.lines.specs.declared.Reader.{Reader}
-use Rattle.lines.specs.declared.Taken.{Taken}
 use Rattle.lines.specs.Lines.{lines_of, clipped, later_lines}
 
 -- 'The call sheet': the bytes from..to of a buffer, as far as it has them
@@ -34,19 +34,30 @@ pub record Unended (limit : ℕ) (s : List ℕ) : Type 0 where
   pub short : length s ≤ limit
   pub last : lines_of s ≡ last_of s
 
--- 'The call sheet': no line is held
-abbrev pub taken_none : Reader → Taken
-taken_none r = record { is_line = false; start = 0; end = 0; reader = r }
+-- 'The call sheet': the line l is taken, and fewer bytes are held
+pub record TakesLine (limit : ℕ) (r k : Reader) (l b : List ℕ) : Type 0 where
+  pub line : (rest : List ℕ) → MayFollow r.ended rest → ahead_of limit r b rest ≡ l ∷ ahead_of limit k b rest
+  pub fewer : length (held_of k b) < length (held_of r b)
+  pub ended : k.ended ≡ r.ended
 
--- 'The call sheet': the next line is taken, and fewer bytes are held; where there is none, no line has ended, and none is left of an input that has ended
-pub record Takes (limit : ℕ) (r : Reader) (t : Taken) (b : List ℕ) : Type 0 where
-  pub line : t.is_line ≡ true → (rest : List ℕ) → MayFollow r.ended rest → ahead_of limit r b rest ≡ held t.start t.end b ∷ ahead_of limit t.reader b rest
-  pub fewer : t.is_line ≡ true → length (held_of t.reader b) < length (held_of r b)
-  pub same : t.is_line ≡ false → (rest : List ℕ) → ahead_of limit r b rest ≡ ahead_of limit t.reader b rest
-  pub waits : t.is_line ≡ false → Unended limit (held_of t.reader b)
-  pub none : t.is_line ≡ false → r.ended ≡ true → ahead_of limit r b [] ≡ []
-  pub ended : t.reader.ended ≡ r.ended
-  pub nothing : t.is_line ≡ false → t ≡ taken_none t.reader
+-- 'The call sheet': no line has ended, and none is left of an input that has ended
+pub record TakesNone (limit : ℕ) (r k : Reader) (b : List ℕ) : Type 0 where
+  pub same : (rest : List ℕ) → ahead_of limit r b rest ≡ ahead_of limit k b rest
+  pub waits : Unended limit (held_of k b)
+  pub none : r.ended ≡ true → ahead_of limit r b [] ≡ []
+  pub ended : k.ended ≡ r.ended
+
+-- 'The call sheet': the next line is taken, where there is one
+abbrev pub Takes : ℕ → Reader → Reader → Option (Bor (List ℕ)) → List ℕ → Type 0
+Takes limit r k line b = MatchOption line (TakesNone limit r k b) (λ l. TakesLine limit r k l.now b)
+
+-- 'The call sheet': the place of the first line feed
+abbrev pub line_feed : List ℕ → Option ℕ
+line_feed s = position (λ b. b == 10) s
+
+-- 'The call sheet': the n bytes that are held stand at the beginning
+abbrev pub moved_of : Reader → ℕ → Reader
+moved_of r n = record r { from = 0; to = n }
 
 -- 'The call sheet': a piece is read behind the bytes that are held; where it is empty, the input has ended
 pub record More (r k : Reader) (before after : List ℕ) : Type 0 where
@@ -55,10 +66,6 @@ pub record More (r k : Reader) (before after : List ℕ) : Type 0 where
   pub skips : k.skips ≡ r.skips
   pub last : k.ended ≡ true → piece ≡ []
   pub onward : k.ended ≡ false → 0 < length piece
-
--- 'The call sheet': n bytes without a line feed are the last line where the input has ended, none where they are none
-abbrev pub taken_last : Reader → ℕ → Taken
-taken_last r n = cond (not (eqb n 0) && r.ended) (record { is_line = true; start = r.from; end = r.to; reader = record { from = r.to; to = r.to; ended = true; skips = false } }) (taken_none r)
 
 -- 'The call sheet': the rest of a line that was too long is left out, and no line with it
 pub record Skips (r k : Reader) (b : List ℕ) : Type 0 where

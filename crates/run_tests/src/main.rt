@@ -8,13 +8,12 @@ mod print;
 use calls::Settings;
 use formatting::FormattingFlags;
 use line::{Head, name_of, read_head, read_run};
-use line_input::read_more;
-use lines::{MAX_LINE, Reader, next_line, part};
+use line_input::{LineProgram, answer_lines};
+use lines::MAX_LINE;
 use print::{put_added, put_both, put_calls, put_each, put_ran, show};
 use run::{Ran, count_run_from, write_run};
-use std::io::{self, Write};
+use std::io;
 use str_writer::{write_ascii, write_ascii_repeated};
-use utils::slice_up_to_len;
 
 // Counts a run on from a total (3), or writes it from a place of four dots (4).
 fn play_once(word: u64, settings: Settings, n: usize, calls: &[u64], text: &[u8]) -> Ran {
@@ -90,30 +89,16 @@ fn answer(line: &[u8], out: &mut [u8]) -> usize {
     }
 }
 
-fn main(rt: HostRuntime) -> io::Result<()> {
-    let mut input = rt.stdin();
-    let mut output = rt.stdout();
-    let mut input_bytes = [0u8; 65536];
-    let mut output_bytes = [0u8; 65536];
-    let space: &mut [u8] = &mut input_bytes;
-    let out: &mut [u8] = &mut output_bytes;
-    let mut reader = Reader::new();
-    let mut turns = u64::MAX;
-    while turns > 0 {
-        turns -= 1;
-        let taken = next_line(reader, space, MAX_LINE);
-        reader = taken.reader;
-        let is_line = taken.is_line;
-        if is_line {
-            let end = answer(part(space, taken.start, taken.end), out);
-            output.write_all(slice_up_to_len(out, end))?;
-            continue;
-        }
-        let ended = reader.ended;
-        if ended {
-            break;
-        }
-        reader = read_more(reader, &mut input, space);
+// The cases, each answered by itself.
+#[derive(Drop)]
+struct Cases;
+
+impl LineProgram for Cases {
+    fn answer(&mut self, line: &[u8], out: &mut [u8]) -> usize {
+        answer(line, out)
     }
-    Ok(())
+}
+
+fn main(rt: HostRuntime) -> io::Result<()> {
+    answer_lines(&mut Cases, &mut rt.stdin(), &mut rt.stdout())
 }

@@ -6,64 +6,50 @@ mod line;
 
 use fields::put_number;
 use line::is_same;
-use line_input::read_more;
-use lines::{MAX_LINE, Reader, next_line, part};
+use line_input::{LineProgram, answer_lines};
 use std::io::{self, Write};
 use str_writer::write_ascii;
 use utils::slice_up_to_len;
 
-// Lays into out that a line differs, or nothing where it does not: the end of what is printed.
-fn answer(line: &[u8], line_number: u64, out: &mut [u8]) -> usize {
-    if is_same(line) {
-        return 0;
-    }
-    let word = write_ascii(out, 0, b"line ");
-    let place = put_number(out, word.at, line_number, b' ');
-    let end = write_ascii(out, place.at, b"differs\n");
-    end.at
+// How many lines are replayed, and how many of them differ.
+#[derive(Drop)]
+struct Replay {
+    replayed: u64,
+    differ: u64,
 }
 
-// Lays the last line into out: the end of what is printed.
-fn put_last(replayed: u64, differ: u64, out: &mut [u8]) -> usize {
-    let count = put_number(out, 0, replayed, b' ');
-    let word = write_ascii(out, count.at, b"replayed, ");
-    let different = put_number(out, word.at, differ, b' ');
-    let end = write_ascii(out, different.at, b"differ\n");
-    end.at
+impl LineProgram for Replay {
+    // Lays that a line differs, or nothing where it does not.
+    fn answer(&mut self, line: &[u8], out: &mut [u8]) -> usize {
+        self.replayed = self.replayed.saturating_add(1);
+        if is_same(line) {
+            return 0;
+        }
+        self.differ = self.differ.saturating_add(1);
+        let word = write_ascii(out, 0, b"line ");
+        let place = put_number(out, word.at, self.replayed, b' ');
+        write_ascii(out, place.at, b"differs\n").at
+    }
+}
+
+impl Replay {
+    // Lays the last line: the end of what is printed.
+    fn put_last(&self, out: &mut [u8]) -> usize {
+        let count = put_number(out, 0, self.replayed, b' ');
+        let word = write_ascii(out, count.at, b"replayed, ");
+        let different = put_number(out, word.at, self.differ, b' ');
+        write_ascii(out, different.at, b"differ\n").at
+    }
 }
 
 fn main(rt: HostRuntime) -> io::Result<()> {
-    let mut input = rt.stdin();
+    let mut replay = Replay {
+        replayed: 0,
+        differ: 0,
+    };
     let mut output = rt.stdout();
-    let mut input_bytes = [0u8; 65536];
-    let mut output_bytes = [0u8; 65536];
-    let space: &mut [u8] = &mut input_bytes;
-    let out: &mut [u8] = &mut output_bytes;
-    let mut reader = Reader::new();
-    let mut replayed: u64 = 0;
-    let mut differ: u64 = 0;
-    let mut turns = u64::MAX;
-    while turns > 0 {
-        turns -= 1;
-        let taken = next_line(reader, space, MAX_LINE);
-        reader = taken.reader;
-        let is_line = taken.is_line;
-        if is_line {
-            replayed += 1;
-            let end = answer(part(space, taken.start, taken.end), replayed, out);
-            if end == 0 {
-                continue;
-            }
-            differ += 1;
-            output.write_all(slice_up_to_len(out, end))?;
-            continue;
-        }
-        let ended = reader.ended;
-        if ended {
-            break;
-        }
-        reader = read_more(reader, &mut input, space);
-    }
-    let end = put_last(replayed, differ, out);
-    output.write_all(slice_up_to_len(out, end))
+    answer_lines(&mut replay, &mut rt.stdin(), &mut output)?;
+    let mut last = [0u8; 80];
+    let end = replay.put_last(&mut last);
+    output.write_all(slice_up_to_len(&last, end))
 }

@@ -15,12 +15,10 @@ use Rattle.str_writer.specs.declared.piece.Written.{Written}
 use Rattle.str_writer.specs.Write.{outcome, put}
 use Rattle.writer_backend.specs.declared.pieces.WriterBackend.{WriterBackend}
 use Rattle.writer_backend.specs.Output.{as_mode, mode_of}
-use Rattle.formatter.specs.declared.head.HeadStep.{HeadStep}
-use Rattle.formatter.specs.View.{view, view_out}
 use Rattle.formatter.specs.Calls.{step_or}
 use Rattle.sheet.specs.declared.Sheet as code
 use Rattle.sheet.specs.Sheet.{Sheet, row_text, stepped}
-use Rattle.sheet.specs.SheetView.{sheet_of, Step, stepped_of, stepping, LineAnswer, answering}
+use Rattle.sheet.specs.SheetView.{run_of, answer_of, sheet_of, Step, stepped_of, stepping, LineAnswer, answering}
 
 number_of : (t n : ℕ) → number_in (as_mode t n) ≡ n
 number_of zero n = refl
@@ -39,14 +37,13 @@ from_some maybe.none c e = absurd (none-some c e)
 from_some (maybe.some x) c e = ap maybe.some (same_Some x c e)
 
 -- both runs play the same call
-module _ (k : ℕ) (S : code.Sheet) (s t b : List ℕ) (o : maybe.Option Call) (x y : HeadStep) (s' n' t' b' : List ℕ) where
-  pub both : view_out x s' n' ≡ step_or (view S.counted s []) o → length n' ≡ 0 → view_out y t' b' ≡ step_or (view S.written t b) o → (c : Call) → option_from o ≡ Some c
-      → stepped_of (record { sheet = record { counted = x.head; written = y.head }; row = record { line = k; counting_answer = x.answer; total = x.head.mode.number; writing_answer = y.answer; cursor = y.head.mode.number } }) s' t' b'
-      ≡ stepping k (sheet_of S s t b) c
+module _ (k : ℕ) (S T : code.Sheet) (b n' b' : List ℕ) (x y : ℕ) (o : maybe.Option Call) where
+  pub both : answer_of x T.counted n' ≡ step_or (run_of S.counted []) o → length n' ≡ 0 → answer_of y T.written b' ≡ step_or (run_of S.written b) o → (c : Call) → option_from o ≡ Some c
+      → stepped_of T (record { line = k; counting_answer = x; total = T.counted.head.mode.number; writing_answer = y; cursor = T.written.head.mode.number }) b' ≡ stepping k (sheet_of S b) c
   both p z q c e =
-      let a : view_out x s' [] ≡ step (view S.counted s []) c = rw (from_some o c e, empty n' z) at p in
-      let d : view_out y t' b' ≡ step (view S.written t b) c = rw (from_some o c e) at q in
-      rw (← a, ← d, number_in_lem x.head.mode, number_in_lem y.head.mode)
+      let a : answer_of x T.counted [] ≡ step (run_of S.counted []) c = rw (from_some o c e, empty n' z) at p in
+      let d : answer_of y T.written b' ≡ step (run_of S.written b) c = rw (from_some o c e) at q in
+      rw (← a, ← d, number_in_lem T.counted.head.mode, number_in_lem T.written.head.mode)
 
 -- the call of a line that is one
 pub a_call : (o : Option Call) → is_some o ≡ true → (c : Call) × (o ≡ Some c)

@@ -1,27 +1,35 @@
--- The sheet of the definitions that the code's two heads, their stacks and the lent bytes are.
+-- The sheet of the definitions that the code's two runs and the lent bytes are.
 use Rattle.std.specs.Prelude.{Bool, List, [], ℕ, Option}
 use Rattle.calls.specs.Call.{Call}
 use Rattle.str_writer.specs.Write.{Outcome, outcome, put}
 use Rattle.formatter.specs.View.{view}
-use Rattle.calls.specs.Model.{step}
+use Rattle.calls.specs.Model.{State, Out, step}
 use Rattle.sheet.specs.Sheet.{Sheet, row_of, stepped}
 use Rattle.sheet.specs.declared.print.Row.{Row}
-use Rattle.sheet.specs.declared.Stepped as code_step
+use Rattle.sheet.specs.declared.Run.{Run}
 use Rattle.sheet.specs.declared.Answered.{Answered}
 use Rattle.sheet.specs.declared.Sheet as code
 
+-- 'The call sheet': the formatter that a run and its buffer are
+abbrev pub run_of : Run → List ℕ → State
+run_of r b = view r.head r.stack b
+
+-- 'The call sheet': the same with what its last call answered
+abbrev pub answer_of : ℕ → Run → List ℕ → Out
+answer_of n r b = record { answer = n; state = run_of r b }
+
 -- 'The call sheet': the counting run has no buffer
-abbrev pub sheet_of : code.Sheet → List ℕ → List ℕ → List ℕ → Sheet
-sheet_of s c w b = record { counted = view s.counted c []; written = view s.written w b }
+abbrev pub sheet_of : code.Sheet → List ℕ → Sheet
+sheet_of s b = record { counted = run_of s.counted []; written = run_of s.written b }
 
 -- 'The call sheet': both runs advanced by a call, and its row
 pub record Step : Type 0 where
   pub sheet : Sheet
   pub row : Row
 
--- 'The call sheet': the same of what the code answers
-abbrev pub stepped_of : code_step.Stepped → List ℕ → List ℕ → List ℕ → Step
-stepped_of r c w b = record { sheet = sheet_of r.sheet c w b; row = r.row }
+-- 'The call sheet': the same of the code's sheet
+abbrev pub stepped_of : code.Sheet → Row → List ℕ → Step
+stepped_of s r b = record { sheet = sheet_of s b; row = r }
 
 -- Document 01, 'The call sheet': a call goes to both runs
 abbrev pub stepping : ℕ → Sheet → Call → Step
@@ -36,9 +44,9 @@ pub record LineAnswer : Type 0 where
   pub sheet : Sheet
   pub printed : Outcome
 
--- 'The call sheet': the same of what the code answers, with the stacks and the bytes as they then are
-abbrev pub answered : Answered → List ℕ → List ℕ → List ℕ → List ℕ → LineAnswer
-answered r c w b out = record { is_call = r.is_call; sheet = sheet_of r.sheet c w b; printed = outcome r.print out }
+-- 'The call sheet': the same of what the code answers, with its sheet and the bytes as they then are
+abbrev pub answered : Answered → code.Sheet → List ℕ → List ℕ → LineAnswer
+answered r s b out = record { is_call = r.is_call; sheet = sheet_of s b; printed = outcome r.print out }
 
 -- Document 01, 'The call sheet': what line k answers, printed at a cursor
 abbrev pub answering : ℕ → Sheet → Option Call → List ℕ → ℕ → LineAnswer

@@ -11,7 +11,10 @@ ghost use Rattle.sheet_line.specs.Line.{call_of_line};
 ghost use Rattle.sheet_line.specs.Reading.{text_in, call_in};
 ghost use Rattle.sheet.specs.Sheet.{fresh_sheet, max_row, end_text, max_end, stepped};
 ghost use Rattle.calls.specs.Call.{Call};
-ghost use Rattle.sheet.specs.SheetView.{sheet_of, stepped_of, stepping, answered, answering};
+ghost use Rattle.calls.specs.Model.{start};
+ghost use Rattle.formatter.specs.Calls.{call_of, step_or};
+ghost use Rattle.writer_backend.specs.Output.{mode_of};
+ghost use Rattle.sheet.specs.SheetView.{run_of, answer_of, stepped_of, sheet_of, stepping, answered, answering};
 
 use calls::Settings;
 use formatter::{Head, Op, call};
@@ -22,138 +25,120 @@ use str_writer::Written;
 use utils::slice_up_to_len;
 use writer_backend::WriterBackend;
 
-// The two runs of a sheet, without their stacks and the buffer, which are lent.
+// A run of a sheet: its formatter, and the stack of its open entries.
 #[derive(Clone, Copy)]
-pub struct Sheet {
-    pub counted: Head,
-    pub written: Head,
+pub struct Run {
+    pub head: Head,
+    pub stack: [u32; 64],
 }
 
-// Whether a line is a call, both runs after it, and the cursor after what it prints.
+impl Run {
+    // Nothing is called yet.
+    fn new(mode: WriterBackend, settings: Settings) -> Run
+        ensures { (b : List ℕ) → run_of result b ≡ start (mode_of mode) b settings }
+    {
+        Run {
+            head: Head::new(mode, settings),
+            stack: [0; 64],
+        }
+    }
+
+    // Makes a call, and gives its answer.
+    fn call(&mut self, buf: &mut [u8], op: Op, s: &[u8]) -> u8
+        ensures { answer_of result self.new buf.new ≡ step_or (run_of self.old buf.old) (call_of op s.now) }
+    {
+        let step = call(self.head, &mut self.stack, buf, op, s);
+        self.head = step.head;
+        step.answer
+    }
+}
+
+// The two runs of a sheet, without the buffer, which is lent.
+#[derive(Clone, Copy)]
+pub struct Sheet {
+    pub counted: Run,
+    pub written: Run,
+}
+
+// Whether a line is a call, and the cursor after what it prints.
 #[derive(Clone, Copy)]
 pub struct Answered {
     pub is_call: bool,
-    pub sheet: Sheet,
     pub print: Written,
-}
-
-// Both runs fresh, with a cursor and settings.
-pub fn fresh(at: usize, settings: Settings) -> Sheet
-    ensures { (s t b : List ℕ) → sheet_of result s t b ≡ fresh_sheet b at settings }
-{
-    Sheet {
-        counted: Head::new(WriterBackend::counting(0), settings),
-        written: Head::new(WriterBackend::writing(at), settings),
-    }
 }
 
 fn is_call(op: Op) -> bool
     ensures { (s : List ℕ) → result ≡ is_some (call_in (Some op) s) }
 {
-    match op {
-        Op::Open(_) => true,
-        Op::Place(_) => true,
-        Op::Finish => true,
-        Op::Sub(_) => true,
-        Op::EndSub => true,
-        Op::Value(_) => true,
-        Op::Nothing => false,
+    !matches!(op, Op::Nothing)
+}
+
+impl Sheet {
+    // Both runs fresh, with a cursor and settings.
+    pub fn fresh(at: usize, settings: Settings) -> Sheet
+        ensures { (b : List ℕ) → sheet_of result b ≡ fresh_sheet b at settings }
+    {
+        Sheet {
+            counted: Run::new(WriterBackend::counting(0), settings),
+            written: Run::new(WriterBackend::writing(at), settings),
+        }
     }
-}
 
-// Both runs advanced by a call, and its row.
-#[derive(Clone, Copy)]
-struct Stepped {
-    sheet: Sheet,
-    row: Row,
-}
-
-fn step(
-    line: u64,
-    sheet: Sheet,
-    counted: &mut [u32; 64],
-    written: &mut [u32; 64],
-    buf: &mut [u8],
-    op: Op,
-    s: &[u8],
-) -> Stepped
-    ensures { (c : Call) → call_in (Some op) s.now ≡ Some c →
-        stepped_of result counted.new written.new buf.new
-        ≡ stepping line (sheet_of sheet counted.old written.old buf.old) c }
-{
-    let mut none = [0u8; 0];
-    let count = call(sheet.counted, counted, &mut none, op, s);
-    let write = call(sheet.written, written, buf, op, s);
-    let counted_head = count.head;
-    let written_head = write.head;
-    let total = counted_head.mode;
-    let cursor = written_head.mode;
-    Stepped {
-        sheet: Sheet {
-            counted: counted_head,
-            written: written_head,
-        },
-        row: Row {
+    // Makes a call in both runs, and gives its row.
+    fn step(&mut self, line: u64, buf: &mut [u8], op: Op, s: &[u8]) -> Row
+        ensures { (c : Call) → call_in (Some op) s.now ≡ Some c →
+            stepped_of self.new result buf.new ≡ stepping line (sheet_of self.old buf.old) c }
+    {
+        let counting_answer = self.counted.call(&mut [], op, s);
+        let writing_answer = self.written.call(buf, op, s);
+        Row {
             line,
-            counting_answer: count.answer,
-            total: total.number as u64,
-            writing_answer: write.answer,
-            cursor: cursor.number as u64,
-        },
+            counting_answer,
+            total: self.counted.head.mode.number as u64,
+            writing_answer,
+            cursor: self.written.head.mode.number as u64,
+        }
     }
-}
 
-// Answers a line: a call goes to both runs and prints a row, a line of another form prints `bad`.
-// `text` takes the name or the string of the call.
-pub fn answer_line(
-    line: u64,
-    sheet: Sheet,
-    counted: &mut [u32; 64],
-    written: &mut [u32; 64],
-    buf: &mut [u8],
-    l: &[u8],
-    text: &mut [u8; 2048],
-    out: &mut [u8],
-    at: usize,
-) -> Answered
-    ensures out_after { answered result counted.new written.new buf.new out.new
-        ≡ answering line (sheet_of sheet counted.old written.old buf.old)
-        (call_of_line l.now) out.old at }
-    ensures l_len_bound { length (stepped line (sheet_of sheet counted.old written.old buf.old)
-        (call_of_line l.now)).text ≤ max_row }
-    ensures text_after { text.new ≡ splice text.old 0 (text_in (call_of_line l.now)) }
-{
-    let parsed = parse_line(l, text);
-    let op = parsed.op;
-    if !is_call(op) {
-        let print = put_bad(out, at, line);
-        return Answered {
-            is_call: false,
-            sheet,
-            print,
-        };
+    // Answers a line: a call goes to both runs and prints a row, a line of another form prints
+    // `bad`. `text` takes the name or the string of the call.
+    pub fn answer_line(
+        &mut self,
+        line: u64,
+        buf: &mut [u8],
+        l: &[u8],
+        text: &mut [u8; 2048],
+        out: &mut [u8],
+        at: usize,
+    ) -> Answered
+        ensures out_after { answered result self.new buf.new out.new
+            ≡ answering line (sheet_of self.old buf.old) (call_of_line l.now) out.old at }
+        ensures l_len_bound { length (stepped line (sheet_of self.old buf.old)
+            (call_of_line l.now)).text ≤ max_row }
+        ensures text_after { text.new ≡ splice text.old 0 (text_in (call_of_line l.now)) }
+    {
+        let parsed = parse_line(l, text);
+        if !is_call(parsed.op) {
+            return Answered {
+                is_call: false,
+                print: put_bad(out, at, line),
+            };
+        }
+        let row = self.step(line, buf, parsed.op, slice_up_to_len(text, parsed.len));
+        Answered {
+            is_call: true,
+            print: put_row(out, at, row),
+        }
     }
-    let own = slice_up_to_len(text, parsed.len);
-    let s = step(line, sheet, counted, written, buf, op, own);
-    let after = s.sheet;
-    let row = s.row;
-    let print = put_row(out, at, row);
-    Answered {
-        is_call: true,
-        sheet: after,
-        print,
-    }
-}
 
-// Prints the last line of a sheet.
-pub fn end_sheet(sheet: Sheet, buf: &[u8], out: &mut [u8], at: usize) -> Written
-    ensures by_index { (c w : List ℕ) → outcome result out.new ≡ put_text out.old at (end_text (sheet_of sheet c w buf.now)) }
-    ensures by_index_2 { (c w : List ℕ) → length (end_text (sheet_of sheet c w buf.now)) ≤ max_end (length buf.now) }
-{
-    let counted = sheet.counted;
-    let written = sheet.written;
-    let total = counted.mode;
-    let cursor = written.mode;
-    let bytes = slice_up_to_len(buf, cursor.number);
-    put_end(out, at, total.number as u64, cursor.number as u64, bytes)
+    // Prints the last line of a sheet.
+    pub fn end(&self, buf: &[u8], out: &mut [u8], at: usize) -> Written
+        ensures out_after { outcome result out.new ≡ put_text out.old at (end_text (sheet_of self.now buf.now)) }
+        ensures text_len_bound { length (end_text (sheet_of self.now buf.now)) ≤ max_end (length buf.now) }
+    {
+        let total = self.counted.head.mode.number;
+        let cursor = self.written.head.mode.number;
+        let bytes = slice_up_to_len(buf, cursor);
+        put_end(out, at, total as u64, cursor as u64, bytes)
+    }
 }

@@ -7,7 +7,7 @@ use Rattle.std.proofs.lemmas.Option.{none-some, same_Some}
 use Prim.Native.Nat.{ℕ, suc, ◌+◌, ◌-◌, ◌*◌, ◌^◌, ◌≤◌}
 use native.Mathlib.Numerals.{add-one}
 use native.Mathlib.Omega.{arith}
-use borrow.Author.Tests.{leb-true, eq-eqb, ne_eqb}
+use borrow.Author.Tests.{leb-true}
 use lib.Dec.{ltb, leb}
 use lib.ListN.{length, take, drop, replicate, length-append, length-take}
 use lib.Seq.{take_at, length-take-le}
@@ -27,11 +27,9 @@ use Rattle.sheet.specs.Sheet.{Sheet, fresh_sheet, bad_text, refused_text, end_te
 use Rattle.sheet.specs.SheetView.{sheet_of, LineAnswer, answered, answering}
 use Rattle.sheet.specs.declared.Sheet as code
 use Rattle.sheet.specs.declared.Answered.{Answered}
-use borrow.Rule.Slice.PartMut.{put_mid}
 use Rattle.sheet.specs.Printed.{printed_from}
 use Rattle.sheet_stream.specs.Left.{Stage, first, later, over, left, stage_of, Answers}
-use Rattle.sheet_stream.specs.declared.State.{State}
-use Rattle.sheet_stream.specs.Step.{Sized, Onward, stopped_of}
+use Rattle.sheet_stream.specs.declared.State.TheVariants.{Later}
 
 -- a text that fits is printed behind what was printed
 module _ (b : List ℕ) (at : ℕ) (t : List ℕ) (w : Written) (c : List ℕ) (e : outcome w c ≡ put b at t) (h : at + length t ≤ length b) where
@@ -45,10 +43,10 @@ module _ (b : List ℕ) (at : ℕ) (t : List ℕ) (w : Written) (c : List ℕ) (
       rw (text-end, u) (take_at (take at b ++ t) (drop (at + length t) b) (at + length t) n)
 
 -- a line that ends the run
-pub answers-over : (S T : Stage) (l out after : List ℕ) (at : ℕ) (t : List ℕ) (w : Written) → T ≡ over → ((ls : List (List ℕ)) → left S (l ∷ ls) ≡ t) → outcome w after ≡ put out at t → length t ≤ 105 → at + 105 ≤ length out → Answers S T l out after at w.at
-answers-over S T l out after at t w o e p h k =
+pub answers-over : (S : Stage) (l out after : List ℕ) (at : ℕ) (t : List ℕ) (w : Written) → ((ls : List (List ℕ)) → left S (l ∷ ls) ≡ t) → outcome w after ≡ put out at t → length t ≤ 105 → at + 105 ≤ length out → Answers S over l out after at w.at
+answers-over S l out after at t w e p h k =
     let n = text-end out at t w after p (omega arith) in
-    record { prints = λ ls. rw (o, e ls, append-nil (take w.at after)) (text-told out at t w after p (omega arith)); short = omega arith }
+    record { prints = λ ls. rw (e ls, append-nil (take w.at after)) (text-told out at t w after p (omega arith)); short = omega arith }
 
 pub begin_bad : (l : List ℕ) → begin_of l ≡ Err Form → (ls : List (List ℕ)) → left first (l ∷ ls) ≡ bad_text 1
 begin_bad l e ls = rw e
@@ -100,28 +98,17 @@ module _ (b : Begin) where
   unfolding begin_line
   fresh-size l e = limit_line (ltb 4096 (length l)) (fields l) (said (begin_line l) e)
 
--- the stage that a state is
-module _ (h : State) (c w b : List ℕ) where
-  pub halted_over : (h₀ : State) → h ≡ stopped_of h₀ → stage_of h c w b ≡ over
-  halted_over h₀ e = rw e
+-- the last line of a run that has begun
+module _ (k : ℕ) (S : code.Sheet) (b out : List ℕ) (at n : ℕ) (after : List ℕ) (v : Written) (h : n ≤ 4096) (m : length (end_text (sheet_of S (take n b))) ≤ 47 + 2 * length (take n b))
+    (p : outcome v after ≡ put out at (end_text (sheet_of S (take n b)))) (r : at + 8239 ≤ length out) where
+  end_fits : at + length (end_text (sheet_of S (take n b))) ≤ at + 8239
+  end_fits = let l : length (take n b) ≤ 4096 = rw length-take (omega arith) in omega arith
 
-  pub stage-first : h.going ≡ true → h.line ≡ 1 → stage_of h c w b ≡ first
-  stage-first e f = rw (e, eq-eqb h.line 1 f)
+  pub end_short : v.at ≤ at + 8239
+  end_short = let f = end_fits in let g = text-end out at (end_text (sheet_of S (take n b))) v after p (omega arith) in omega arith
 
-  pub stage-later : h.going ≡ true → (h.line ≡ 1 → ⊥) → stage_of h c w b ≡ later h.line (sheet_of h.sheet c w (take h.size b))
-  stage-later e f = rw (e, ne_eqb h.line 1 f)
-
-  -- the last line
-  module _ (out : List ℕ) (at : ℕ) where
-    module _ (s after : List ℕ) (v : Written) (q : s ≡ take h.size b) (k : h.size ≤ 4096) (r : at + 8239 ≤ length out) (n : length (end_text (sheet_of h.sheet c w s)) ≤ 47 + 2 * length s) (p : outcome v after ≡ put out at (end_text (sheet_of h.sheet c w s))) where
-      end_fits : at + length (end_text (sheet_of h.sheet c w s)) ≤ at + 8239
-      end_fits = let m : length s ≤ 4096 = rw (q, length-take) (omega arith) in omega arith
-
-      pub end_short : v.at ≤ at + 8239
-      end_short = let f = end_fits in let g = text-end out at (end_text (sheet_of h.sheet c w s)) v after p (omega arith) in omega arith
-
-      pub end_later : h.going ≡ true → (h.line ≡ 1 → ⊥) → take v.at after ≡ take at out ++ left (stage_of h c w b) []
-      end_later e f = let g = end_fits in rw (stage-later e f, ← q) (text-told out at (end_text (sheet_of h.sheet c w s)) v after p (omega arith))
+  pub end_later : take v.at after ≡ take at out ++ left (stage_of (Later k n S) b) []
+  end_later = let g = end_fits in text-told out at (end_text (sheet_of S (take n b))) v after p (omega arith)
 
 -- a line of a run that has begun
 left-next : (t : Bool) (k : ℕ) (S : Sheet) (ls : List (List ℕ)) → left (cond t (later (k + 1) S) over) ls ≡ cond t (printed_from (suc k) S ls) []
@@ -139,22 +126,14 @@ module _ (k : ℕ) (S : Sheet) (l out after : List ℕ) (at : ℕ) (t : Bool) (S
       let n = text-end out at x v after p (omega arith) in
       record { prints = λ ls. rw (left-next t k S' ls, text-told out at x v after p (omega arith), i, j, append_assoc); short = omega arith }
 
-pub stage-next : (h : State) (c w b s : List ℕ) → (h.line ≡ 1 → ⊥) → take h.size b ≡ s → stage_of h c w b ≡ cond h.going (later h.line (sheet_of h.sheet c w s)) over
-stage-next h c w b s f e = rw (ne_eqb h.line 1 f, e)
+-- the same, of the part of a buffer that is the run's
+module _ (k n : ℕ) (S S' : code.Sheet) (b x : List ℕ) (r : Answered) (l out after : List ℕ) (at : ℕ) (f : answered r S' x after ≡ answering k (sheet_of S (take n b)) (call_of_line l) out at)
+    (h : length (stepped k (sheet_of S (take n b)) (call_of_line l)).text ≤ 105) (q : length x ≡ n) (v : at + 105 ≤ length out) where
+  answers-part : Answers (stage_of (Later k n S) b) (cond r.is_call (stage_of (Later (k + 1) n S') (x ++ drop n b)) over) l out after at r.print.at
+  answers-part = rw (take_at x (drop n b) n q) (answers-line k (sheet_of S (take n b)) l out after at r.is_call (sheet_of S' x) r.print f h v)
 
-pub part_length : (n : ℕ) (b : List ℕ) → n ≤ length b → length (take (n - 0) (drop 0 b)) ≡ n
-part_length n b h = let z : n - 0 ≡ n = omega arith in rw z (length-take-le n b h)
+  pub answers-later : r.is_call ≡ true → Answers (stage_of (Later k n S) b) (stage_of (Later (k + 1) n S') (x ++ drop n b)) l out after at r.print.at
+  answers-later i = rw i at answers-part
 
-pub answers-later : (k n : ℕ) (sh : code.Sheet) (c w b c' w' x : List ℕ) (r : Answered) (l out after : List ℕ) (at : ℕ)
-    → answered r c' w' x after ≡ answering k (sheet_of sh c w (take (n - 0) (drop 0 b))) (call_of_line l) out at
-    → length (stepped k (sheet_of sh c w (take (n - 0) (drop 0 b))) (call_of_line l)).text ≤ 105
-    → length x ≡ n → 1 ≤ k → at + 105 ≤ length out
-    → Answers (later k (sheet_of sh c w (take n b))) (stage_of (record { line = k + 1; size = n; sheet = r.sheet; going = r.is_call }) c' w' (put_mid 0 (n - 0) b x)) l out after at r.print.at
-answers-later k n sh c w b c' w' x r l out after at e h q u v =
-    let z : n - 0 ≡ n = omega arith in
-    let y : take n (put_mid 0 (n - 0) b x) ≡ x = take_at x (drop (n - 0) b) n q in
-    let g = stage-next (record { line = k + 1; size = n; sheet = r.sheet; going = r.is_call }) c' w' (put_mid 0 (n - 0) b x) x (λ o. absurd (omega arith)) y in
-    rw g (rw z at (answers-line k (sheet_of sh c w (take (n - 0) (drop 0 b))) l out after at r.is_call (sheet_of r.sheet c' w' x) r.print e h v))
-
-pub onward_stopped : (h r : State) (b : List ℕ) → Sized h b → r ≡ stopped_of h → Onward h r
-onward_stopped h r b s e = rw e (record { size = s.size; starts = s.starts; counts = omega arith })
+  pub answers-last : r.is_call ≡ false → Answers (stage_of (Later k n S) b) over l out after at r.print.at
+  answers-last i = rw i at answers-part

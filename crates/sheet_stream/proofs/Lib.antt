@@ -1,3 +1,4 @@
 pub mod Laws
 pub mod Playing
 pub mod Stepping
+pub mod Going

@@ -1,5 +1,5 @@
 -- The sheet as a program that answers lines: what it writes in all.
-use mathlib.Core.Bool.{Bool, true, false, ◌||◌, not}
+use mathlib.Core.Bool.{Bool, true, false, ◌||◌}
 use mathlib.Core.Path.{◌≡◌, refl, ap, sym, ◌∙◌}
 use mathlib.Core.List.{List, [], ◌∷◌, ◌++◌}
 use Prim.Native.Nat.{ℕ, suc, ◌+◌, ◌<◌}
@@ -21,7 +21,7 @@ use Rattle.sheet.specs.Sheet.{Sheet, fresh_sheet, stepped}
 use Rattle.sheet.specs.Printed.{printed_from, printed_after, printed_lines}
 use Rattle.sheet_stream.specs.Left.{first, left, SheetPlaysRight, SheetBreaksOffRight}
 use Rattle.sheet_stream.specs.declared.Stream.{Stream}
-use Rattle.sheet_stream.specs.Step.{Sized, is_due, StaysReady}
+use Rattle.sheet_stream.specs.Step.{Sized, is_over, is_due, StaysReady}
 
 -- a line that the reader clipped means what it meant, where all lines above the limit mean the same
 clipped-line : {A : Type 0} (f : List ℕ → A) (x : A) → ((l : List ℕ) → max_line < length l → f l ≡ x) → (l : List ℕ) → f (take (max_line + 1) l) ≡ f l
@@ -51,7 +51,7 @@ after-clipped (Err Form) ls = refl
 after-clipped (Err Cursor) ls = refl
 after-clipped (Ok b) ls = from-clipped 2 (fresh_sheet (replicate b.size 0) b.cursor (record { flags = b.flags })) ls
 
-lines-clipped : (ls : List (List ℕ)) → printed_lines (clipped max_line ls) ≡ printed_lines ls
+pub lines-clipped : (ls : List (List ℕ)) → printed_lines (clipped max_line ls) ≡ printed_lines ls
 lines-clipped [] = refl
 lines-clipped (l ∷ ls) = rw (clipped-line begin_of (Err Form) long_begin l) (after-clipped (begin_of l) ls)
 
@@ -62,16 +62,16 @@ pub sheet-breaks_off_right : SheetBreaksOffRight
 sheet-breaks_off_right ins outs b p rest m = breaks_off_right left max_line first ins outs b p rest m ∙ lines-clipped (lines_of (joined ins ++ rest))
 
 -- what is ready stays so
-not_due : (h : Stream) → is_due h ≡ false → h.printed < 32768
-not_due h e = by_cases h.waits h.state.going e
+not_due : (h : Stream) (waits : Bool) → is_due h waits ≡ false → h.printed < 32768
+not_due h waits e = by_cases waits (is_over h.state) e
   where
-    by_cases : (w g : Bool) → (w || (not g || leb 32768 h.printed)) ≡ false → h.printed < 32768
+    by_cases : (w g : Bool) → (w || (g || leb 32768 h.printed)) ≡ false → h.printed < 32768
     by_cases true g e = absurd (apart true refl e)
-    by_cases false false e = absurd (apart true refl e)
-    by_cases false true e = leb-false 32768 h.printed e
+    by_cases false true e = absurd (apart true refl e)
+    by_cases false false e = leb-false 32768 h.printed e
 
 pub stays-ready : StaysReady
-stays-ready h r b out b' out' R o n lb lo k =
+stays-ready h r waits b out b' out' R o n lb lo k =
     let s = R.sized in
-    let t : Sized r.state b' = record { size = o.size; lends = omega (arith, s.lends); starts = o.starts; counts = k } in
-    (record { sized = t; room = omega (arith, R.room) }, λ e m. let f = not_due r e in record { sized = t; room = omega arith })
+    let t : Sized r.state b' = record { size = o.size; lends = omega (arith, s.lends); counts = k } in
+    (record { sized = t; room = omega (arith, R.room) }, λ e m. let f = not_due r waits e in record { sized = t; room = omega arith })

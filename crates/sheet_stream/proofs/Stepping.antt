@@ -1,64 +1,40 @@
 -- A step keeps what is to be printed.
-use mathlib.Core.Bool.{Bool, true, false}
-use mathlib.Core.Path.{◌≡◌, refl}
+use mathlib.Core.Bool.{true, false}
+use mathlib.Core.Path.{◌≡◌, refl, sym, ◌∙◌}
 use mathlib.Core.List.{List, [], ◌++◌}
 use Prim.Native.Nat.{ℕ, ◌+◌, ◌≤◌}
 use native.Mathlib.Omega.{arith}
 use lib.ListN.{take}
-use Rattle.lines.specs.declared.Taken.{Taken}
+use Rattle.lines.specs.declared.Reader.{Reader}
 use Rattle.lines.specs.Lines.{max_line}
-use Rattle.lines.specs.Reading.{held, Takes}
-use Rattle.lines.proofs.Playing.{apart, line-steps, wait_steps, end-steps}
+use Rattle.lines.specs.Reading.{TakesLine, TakesNone}
+use Rattle.lines.proofs.Playing.{line-steps, wait_steps, end-steps}
 use Rattle.sheet_line.specs.Begin.{max_size}
 use Rattle.sheet.specs.Sheet.{max_end}
 use Rattle.sheet_stream.specs.declared.State.{State}
+use Rattle.sheet_stream.specs.declared.State.TheVariants.{Over}
 use Rattle.sheet_stream.specs.declared.Stream.{Stream}
-use Rattle.sheet_stream.specs.declared.Told.{Told}
 use Rattle.sheet_stream.specs.Left.{left, stage_of, Answers}
-use Rattle.sheet_stream.specs.Step.{Onward, Ready, stopped_of, halted_of, Stepped, emptied_of, after_write}
-use Rattle.sheet_stream.proofs.Laws.{halted_over, onward_stopped}
+use Rattle.sheet_stream.specs.Step.{Onward, Ready, Stepped}
 
-pub halts : (h : Stream) (s : State) → s ≡ stopped_of h.state → ◌≡◌ {A = Stream} (record { reader = h.reader; state = s; printed = h.printed; waits = false }) (halted_of h)
-halts h s e = rw e
-
--- after a write
-pub written-done : (h : Stream) (done : Bool) → done ≡ true → emptied_of h ≡ after_write h done
-written-done h done e = rw e
-
-pub written_failed : (h : Stream) (done : Bool) → done ≡ false → halted_of (emptied_of h) ≡ after_write h done
-written_failed h done e = rw e
-
--- what is not ready
-pub not-ready : (h : Stream) (b out : List ℕ) → (Ready h b out → ⊥) → (false ≡ true → Ready h b out) × (false ≡ false → Ready h b out → ⊥)
-not-ready h b out f = ((λ e. absurd (apart false e refl)), λ e. f)
-
--- from h, over the stacks, the lent bytes and what is printed, as they are before and after the step
-module _ (h : Stream) (space c w b out : List ℕ) (R : Ready h b out) (t : Taken) (k : Takes max_line h.reader t space) where
+-- from h, over the lent bytes and what is printed, as they are before and after the step
+module _ (h : Stream) (k : Reader) (space b out : List ℕ) (R : Ready h b out) where
   -- more is awaited
-  pub step_wait : t.is_line ≡ false → h.reader.ended ≡ false → Stepped h (record { reader = t.reader; state = h.state; printed = h.printed; waits = true }) space c w b out c w b out
-  step_wait e f =
+  pub step_wait : TakesNone max_line h.reader k space → k.ended ≡ false → Stepped h (record h { reader = k }) true space b out b out
+  step_wait t f =
       let s = R.sized in
-      record {
-        steps = wait_steps left max_line (stage_of h.state c w b) h.reader t space (take h.printed out) k e f;
-        onward = record { size = s.size; starts = s.starts; counts = omega arith };
-        room = omega arith;
-      }
+      record { steps = wait_steps left max_line (stage_of h.state b) h.reader k space (take h.printed out) t (sym t.ended ∙ f); onward = record { size = s.size; counts = omega arith }; room = omega arith }
 
-  module _ (c' w' b' out' : List ℕ) where
+  module _ (b' out' : List ℕ) where
     -- a line is answered
-    pub step_line : t.is_line ≡ true → (r : Told) (l : List ℕ) → l ≡ held t.start t.end space → Answers (stage_of h.state c w b) (stage_of r.state c' w' b') l out out' h.printed r.at
-        → Onward h.state r.state → Stepped h (record { reader = t.reader; state = r.state; printed = r.at; waits = false }) space c w b out c' w' b' out'
-    step_line e r l q a o =
-        let f = rw q at a in
-        let s = a.short in
-        record { steps = line-steps left max_line (stage_of h.state c w b) h.reader t space (take h.printed out) k e (stage_of r.state c' w' b') (take r.at out') f.prints; onward = o; room = omega arith }
+    pub step_line : (l : List ℕ) → TakesLine max_line h.reader k l space → (s : State) (end : ℕ) → Answers (stage_of h.state b) (stage_of s b') l out out' h.printed end → Onward h.state s
+        → Stepped h (record { reader = k; state = s; printed = end }) false space b out b' out'
+    step_line l t s end a o =
+        let f = a.short in
+        record { steps = line-steps left max_line (stage_of h.state b) h.reader k space (take h.printed out) l t (stage_of s b') (take end out') a.prints; onward = o; room = omega arith }
 
     -- the input has ended
-    pub step_end : t.is_line ≡ false → h.reader.ended ≡ true → (s : State) (end : ℕ) → s ≡ stopped_of h.state → take end out' ≡ take h.printed out ++ left (stage_of h.state c w b) []
-        → end ≤ h.printed + max_end max_size → Stepped h (record { reader = t.reader; state = s; printed = end; waits = false }) space c w b out c' w' b' out'
-    step_end e f s end q g n =
-        record {
-          steps = end-steps left max_line (stage_of h.state c w b) h.reader t space (take h.printed out) k e f (stage_of s c' w' b') (take end out') (λ ls. rw (halted_over s c' w' b' h.state q)) g;
-          onward = onward_stopped h.state s b R.sized q;
-          room = n;
-        }
+    pub step_end : TakesNone max_line h.reader k space → k.ended ≡ true → (end : ℕ) → take end out' ≡ take h.printed out ++ left (stage_of h.state b) [] → end ≤ h.printed + max_end max_size
+        → Stepped h (record { reader = k; state = Over; printed = end }) false space b out b' out'
+    step_end t e end g n =
+        record { steps = end-steps left max_line (stage_of h.state b) h.reader k space (take h.printed out) t (sym t.ended ∙ e) (stage_of Over b') (take end out') (λ ls. refl) g; onward = record { size = omega arith; counts = omega arith }; room = n }

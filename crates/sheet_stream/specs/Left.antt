@@ -1,5 +1,5 @@
 -- Document 01, 'The call sheet': where a sheet stands between two lines, and what is left to print from there.
-use Rattle.std.specs.Prelude.{cond, ◌≡◌, List, [], ◌∷◌, ◌++◌, ℕ, ◌+◌, ◌≤◌, eqb, take}
+use Rattle.std.specs.Prelude.{◌≡◌, List, [], ◌∷◌, ◌++◌, ℕ, ◌+◌, ◌≤◌, take}
 use Rattle.lines.specs.Lines.{max_line}
 use Rattle.lines.specs.Reading.{MayFollow}
 use Rattle.lines.specs.Played.{At, remains, joined, Plays, begins, Done}
@@ -7,6 +7,7 @@ use Rattle.sheet.specs.Sheet.{Sheet, max_row}
 use Rattle.sheet.specs.SheetView.{sheet_of}
 use Rattle.sheet.specs.Printed.{printed_from, printed_lines, printed}
 use Rattle.sheet_stream.specs.declared.State.{State}
+use Rattle.sheet_stream.specs.declared.State.TheVariants.{First, Later, Over}
 
 -- 'The call sheet': before line 1; before line k with both runs; after a line that ends the run, or after `end`
 pub data Stage : Type 0 where
@@ -29,9 +30,11 @@ abbrev pub SheetBreaksOffRight : Type 0
 SheetBreaksOffRight =
     (ins outs : List (List ℕ)) (b : At Stage) → Plays left max_line (begins first) ins outs b → (rest : List ℕ) → MayFollow b.ended rest → joined outs ++ remains left max_line b rest ≡ printed (joined ins ++ rest)
 
--- 'The call sheet': the stage that the code's state is, with both stacks and the lent bytes
-abbrev pub stage_of : State → List ℕ → List ℕ → List ℕ → Stage
-stage_of h c w b = cond h.going (cond (eqb h.line 1) first (later h.line (sheet_of h.sheet c w (take h.size b)))) over
+-- 'The call sheet': the stage that the code's state is, with the lent bytes
+abbrev pub stage_of : State → List ℕ → Stage
+stage_of First b = first
+stage_of (Later k n s) b = later k (sheet_of s (take n b))
+stage_of Over b = over
 
 -- 'The call sheet': the line l is answered: what is printed, and is left after it, is what was printed and was left before it
 pub record Answers (S T : Stage) (l out after : List ℕ) (at end : ℕ) : Type 0 where

@@ -5,50 +5,13 @@
 #![tactic(auto)]
 
 use fields::put_number;
-use line_input::read_more;
-use sheet_line::MAX_SIZE;
-use sheet_stream::{emptied, fed, is_due, start, step};
+use sheet_stream::play;
 use std::env::{Env, FillError};
 use std::fs::File;
 use std::io::{self, Read, Write};
 use std::rt::Files;
 use str_writer::write_ascii;
 use utils::slice_up_to_len;
-
-// Reads a sheet and answers it.
-fn play<R: Read, W: Write>(input: &mut R, output: &mut W) {
-    let mut input_bytes = [0u8; 65536];
-    let mut output_bytes = [0u8; 65536];
-    let mut run_bytes = [0u8; MAX_SIZE];
-    let mut counted = [0u32; 64];
-    let mut written = [0u32; 64];
-    let mut text = [0u8; 2048];
-    let space: &mut [u8] = &mut input_bytes;
-    let out: &mut [u8] = &mut output_bytes;
-    let buf: &mut [u8] = &mut run_bytes;
-    let mut h = start();
-    let mut turns = u64::MAX;
-    while turns > 0 {
-        turns -= 1;
-        h = step(h, space, &mut counted, &mut written, buf, &mut text, out);
-        if !is_due(h) {
-            continue;
-        }
-        let printed = slice_up_to_len(out, h.printed);
-        let done = output.write_all(printed).is_ok();
-        h = emptied(h, done);
-        let state = h.state;
-        let going = state.going;
-        if !going {
-            break;
-        }
-        let waits = h.waits;
-        if waits {
-            let reader = h.reader;
-            h = fed(h, read_more(reader, input, space));
-        }
-    }
-}
 
 // How many bytes are left to read, at most 131,072.
 fn unread<R: Read>(input: &mut R) -> u64 {
@@ -101,10 +64,11 @@ fn played<R: Files + Print>(
         return lay_name(out, b"not opened: ", path);
     };
     let Some(file) = output else {
-        play(&mut input, &mut io::writer(rt));
+        let _ = play(&mut input, &mut io::writer(rt));
         return 0;
     };
-    play(&mut input, file);
+    // A write that failed shows in how much is left to read.
+    let _ = play(&mut input, file);
     let left = unread(&mut input);
     let number = put_number(out, 0, left, b' ');
     write_ascii(out, number.at, b"bytes are not read\n").at

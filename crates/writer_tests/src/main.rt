@@ -12,10 +12,9 @@ use cursor::cursor_call;
 use fields::{first_field, later_fields, number, place_of};
 use integers::{debug_call, display_call};
 use lent::{truncate_call, twice_call};
-use line_input::read_more;
-use lines::{MAX_LINE, Reader, next_line, part};
+use line_input::{LineProgram, answer_lines};
 use print::put_result;
-use std::io::{self, Write};
+use std::io;
 use str_writer::{Written, put};
 use texts::{char_call, range_call, repeated_call, text_call};
 use utils::slice_up_to_len;
@@ -104,30 +103,16 @@ fn answer(line: &[u8], out: &mut [u8]) -> usize {
     w.at
 }
 
-fn main(rt: HostRuntime) -> io::Result<()> {
-    let mut input = rt.stdin();
-    let mut output = rt.stdout();
-    let mut input_bytes = [0u8; 65536];
-    let mut output_bytes = [0u8; 65536];
-    let space: &mut [u8] = &mut input_bytes;
-    let out: &mut [u8] = &mut output_bytes;
-    let mut reader = Reader::new();
-    let mut turns = u64::MAX;
-    while turns > 0 {
-        turns -= 1;
-        let taken = next_line(reader, space, MAX_LINE);
-        reader = taken.reader;
-        let is_line = taken.is_line;
-        if is_line {
-            let end = answer(part(space, taken.start, taken.end), out);
-            output.write_all(slice_up_to_len(out, end))?;
-            continue;
-        }
-        let ended = reader.ended;
-        if ended {
-            break;
-        }
-        reader = read_more(reader, &mut input, space);
+// The cases, each answered by itself.
+#[derive(Drop)]
+struct Cases;
+
+impl LineProgram for Cases {
+    fn answer(&mut self, line: &[u8], out: &mut [u8]) -> usize {
+        answer(line, out)
     }
-    Ok(())
+}
+
+fn main(rt: HostRuntime) -> io::Result<()> {
+    answer_lines(&mut Cases, &mut rt.stdin(), &mut rt.stdout())
 }
