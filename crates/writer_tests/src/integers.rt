@@ -28,13 +28,7 @@ fn written<I: PrimitiveInteger>(
 }
 
 // A write of n as a value of an unsigned type.
-fn unsigned(
-    k: usize,
-    n: u64,
-    form: Form,
-    buf: &mut [u8],
-    at: usize,
-) -> Option<Written> {
+fn unsigned(k: usize, n: u64, form: Form, buf: &mut [u8], at: usize) -> Option<Written> {
     match k {
         0 => written(u8::try_from(n), form, buf, at),
         1 => written(u16::try_from(n), form, buf, at),
@@ -83,12 +77,7 @@ pub(crate) fn display_call(
 }
 
 // `VALUE,dec|hex|bin,upper|lower,plain|alt`.
-pub(crate) fn debug_call(
-    k: usize,
-    arguments: &[u8],
-    buf: &mut [u8],
-    at: usize,
-) -> Option<Written> {
+pub(crate) fn debug_call(k: usize, arguments: &[u8], buf: &mut [u8], at: usize) -> Option<Written> {
     let words = later_fields(arguments);
     let others = later_fields(words);
     let flags = FormattingFlags {
