@@ -2,38 +2,34 @@
 #![tactic(auto)]
 
 ghost use Rattle.std.specs.Prelude.{◌≡◌};
-ghost use Rattle.ascii_str.specs.Ascii.{ascii_from, ascii_answer};
+ghost use Rattle.error.specs.declared.Error.TheVariants.{NotAscii};
+ghost use Rattle.ascii_str.specs.Ascii.{ascii_from};
 
-use error::Answer;
+use error::Error;
 
-// Whether a text is ASCII, or where its first byte above 127 is.
-#[derive(Clone, Copy)]
-pub enum AsciiStr {
-    Ascii,
-    NotAsciiError { invalid_from: usize },
+// Where the first byte above 127 of a text is.
+#[derive(Clone, Copy, Debug, PartialEq, Eq)]
+pub struct NotAsciiError {
+    pub invalid_from: usize,
 }
 
-impl AsciiStr {
-    // Tests a text. The loop ends sooner on a short text than the iterator's `position`.
-    #[tactic(auto, using(crate::proofs::Laws::above, crate::proofs::Laws::below, crate::proofs::Laws::end))]
-    pub fn new(s: &[u8]) -> Self
-        ensures { result ≡ ascii_from 0 s.now }
+impl From<NotAsciiError> for Error {
+    fn from(_: NotAsciiError) -> Error
+        ensures { result ≡ NotAscii }
     {
-        for (invalid_from, b) in s.iter().enumerate() {
-            if *b > 127 {
-                return AsciiStr::NotAsciiError { invalid_from };
-            }
-        }
-        AsciiStr::Ascii
+        Error::NotAscii
     }
+}
 
-    // Done for ASCII text, else NotAscii.
-    pub fn answer(self) -> Answer
-        ensures { result ≡ ascii_answer self }
-    {
-        match self {
-            AsciiStr::Ascii => Answer::Done,
-            AsciiStr::NotAsciiError { invalid_from: _ } => Answer::NotAscii,
+// Tests a text. The loop ends sooner on a short text than the iterator's `position`.
+#[tactic(auto, using(crate::proofs::Laws::above, crate::proofs::Laws::below, crate::proofs::Laws::end))]
+pub fn check_ascii(s: &[u8]) -> Result<(), NotAsciiError>
+    ensures { result ≡ ascii_from 0 s.now }
+{
+    for (invalid_from, b) in s.iter().enumerate() {
+        if *b > 127 {
+            return Err(NotAsciiError { invalid_from });
         }
     }
+    Ok(())
 }

@@ -1,16 +1,15 @@
 -- Document 01, 'A character'.
-use Rattle.std.specs.Prelude.{cond, List, [], ◌∷◌, ◌++◌, ℕ, ◌-◌, ltb, length, replicate}
-use Rattle.error.specs.declared.Answer.{Answer}
-use Rattle.error.specs.declared.Answer.TheVariants.{Done, NotAChar}
+use Rattle.std.specs.Prelude.{cond, List, [], ◌∷◌, ◌++◌, ℕ, ◌-◌, ltb, length, replicate, Result, Ok, Err}
+use Rattle.error.specs.declared.Error.{Error}
+use Rattle.error.specs.declared.Error.TheVariants.{NotAChar}
 use Rattle.formatting.specs.Escape.{escape_of, escape_text}
 use Rattle.utf8.specs.Utf8.{is_scalar, octets}
 use Rattle.char_encoding.specs.declared.Utf8Char.{Utf8Char}
 use Rattle.char_encoding.specs.declared.FmtChar.{FmtChar}
-use Rattle.char_encoding.specs.declared.CharLen.{CharLen}
 
 -- 'The answer to a call': 5 for a code in D800 to DFFF (hexadecimal) or above 10FFFF
-abbrev pub char_answer : ℕ → Answer
-char_answer c = cond (is_scalar c) Done NotAChar
+abbrev pub unless_no_char : {A : Type 0} → ℕ → A → Result A Error
+unless_no_char c a = cond (is_scalar c) (Ok a) (Err NotAChar)
 
 -- 'A character': the display form is the octets; what is no character has no text
 unfoldable pub char_display : ℕ → List ℕ
@@ -29,13 +28,13 @@ abbrev pub padded : ℕ → List ℕ → List ℕ
 padded n t = t ++ replicate (n - length t) 0
 
 -- 'A character': a text in four bytes and its length
-abbrev pub utf8_char : ℕ → List ℕ → Utf8Char
-utf8_char c t = record { len = length t; bytes = padded 4 t; answer = char_answer c }
+abbrev pub utf8_char : ℕ → List ℕ → Result Utf8Char Error
+utf8_char c t = unless_no_char c (record { len = length t; bytes = padded 4 t })
 
 -- 'A character': a display or quoted form in six bytes
-abbrev pub fmt_char : ℕ → List ℕ → FmtChar
-fmt_char c t = record { len = length t; encoded = padded 6 t; answer = char_answer c }
+abbrev pub fmt_char : ℕ → List ℕ → Result FmtChar Error
+fmt_char c t = unless_no_char c (record { len = length t; encoded = padded 6 t })
 
 -- 'A character': the length of a display or quoted form
-abbrev pub char_len : ℕ → List ℕ → CharLen
-char_len c t = record { len = length t; answer = char_answer c }
+abbrev pub char_len : ℕ → List ℕ → Result ℕ Error
+char_len c t = unless_no_char c (length t)

@@ -1,12 +1,18 @@
 -- Document 01, 'The answer to a call'.
-use Rattle.std.specs.Prelude.{Bool, true, false, ℕ}
-use Rattle.std.proofs.Math.Option.{Option, none, some}
-use Rattle.error.specs.declared.Answer.{Answer}
-use Rattle.error.specs.declared.Answer.TheVariants.{Done, NotEnoughSpace, NotAscii, NotOnCharBoundary, NotUtf8, NotAChar, CountTooLarge, TooDeep, WrongCall, BadCursor}
+use Rattle.std.specs.Prelude.{ℕ, ⊤, Option, Some, None, Result, Ok, Err}
+use Rattle.error.specs.declared.Error.{Error}
+use Rattle.error.specs.declared.Error.TheVariants.{NotEnoughSpace, NotAscii, NotOnCharBoundary, NotUtf8, NotAChar, CountTooLarge, TooDeep, WrongCall, BadCursor}
 
--- 'The answer to a call': the number of each answer
-abbrev pub number_of : Answer → ℕ
-number_of Done = 0
+-- 'The answer to a call': done, or what the call met
+abbrev pub Answer : Type 0
+Answer = Result ⊤ Error
+
+-- 'The answer to a call', 0: done
+abbrev pub done : ℕ
+done = 0
+
+-- 'The answer to a call': the number of each error
+abbrev pub number_of : Error → ℕ
 number_of NotEnoughSpace = 1
 number_of NotAscii = 2
 number_of NotOnCharBoundary = 3
@@ -17,20 +23,17 @@ number_of TooDeep = 7
 number_of WrongCall = 8
 number_of BadCursor = 9
 
--- 'The answer to a call': what a call that meets a fault answers; 0 where it meets none
-abbrev pub answer_of : Option Answer → Answer
-answer_of none = Done
-answer_of (some a) = a
+-- 'The answer to a call': the number of what a call meets; 0 where it meets nothing
+abbrev pub fault_number : Option Error → ℕ
+fault_number None = done
+fault_number (Some e) = number_of e
 
--- 'The answer to a call', 0: whether nothing was met
-abbrev pub is_done : Answer → Bool
-is_done Done = true
-is_done NotEnoughSpace = false
-is_done NotAscii = false
-is_done NotOnCharBoundary = false
-is_done NotUtf8 = false
-is_done NotAChar = false
-is_done CountTooLarge = false
-is_done TooDeep = false
-is_done WrongCall = false
-is_done BadCursor = false
+-- 'The answer to a call': what a call answers that meets a fault, or nothing
+abbrev pub answer_of : Option Error → Answer
+answer_of None = Ok tt
+answer_of (Some e) = Err e
+
+-- 'The answer to a call': the number of an answer
+abbrev pub answer_number : Answer → ℕ
+answer_number (Ok u) = done
+answer_number (Err e) = number_of e

@@ -1,15 +1,13 @@
 -- Document 01, 'A nested record, and its count': the values, any number, character, string, ASCII or repeated-character write, display or debug.
-use Rattle.std.specs.Prelude.{cond, ◌&&◌, List, ℕ, ◌%◌, ℤ, length, replicate}
-use Rattle.std.proofs.Math.Option.{Option, none, some}
-use Rattle.error.specs.declared.Answer.{Answer}
-use Rattle.error.specs.declared.Answer.TheVariants.{NotAscii, NotOnCharBoundary, NotUtf8, NotAChar}
+use Rattle.std.specs.Prelude.{cond, ◌&&◌, List, ℕ, ◌%◌, ℤ, length, replicate, ⊤, Option, Some, None, Result, Ok, Err}
+use Rattle.error.specs.declared.Error.{Error}
+use Rattle.error.specs.declared.Error.TheVariants.{NotAscii, NotOnCharBoundary, NotUtf8, NotAChar}
 use Rattle.formatting.specs.declared.flags.FormattingFlags.{FormattingFlags}
 use Rattle.formatting.specs.Escape.{quoted}
 use Rattle.utf8.specs.Utf8.{well_formed, is_scalar}
 use Rattle.utils.specs.declared.Range.{Range}
 use Rattle.utils.specs.Text.{saturated, part, is_boundary}
-use Rattle.ascii_str.specs.declared.AsciiStr.{AsciiStr}
-use Rattle.ascii_str.specs.declared.AsciiStr.TheVariants.{Ascii, NotAsciiError}
+use Rattle.ascii_str.specs.declared.NotAsciiError.{NotAsciiError}
 use Rattle.ascii_str.specs.Ascii.{ascii_from}
 use Rattle.char_encoding.specs.Char.{char_display, char_debug}
 use Rattle.pwrapper.specs.Number.{display_text, debug_text}
@@ -46,26 +44,26 @@ text_of f (ascii m s r) = string_text m (part s r)
 text_of f (repeated c n) = replicate n (c % 128)
 
 -- 'The answer to a call', 2: ASCII text holds a byte above 127
-abbrev pub ascii_fault : AsciiStr → Option Answer
-ascii_fault Ascii = none
-ascii_fault (NotAsciiError i) = some NotAscii
+abbrev pub ascii_fault : Result ⊤ NotAsciiError → Option Error
+ascii_fault (Ok u) = None
+ascii_fault (Err e) = Some NotAscii
 
 -- 'The answer to a call', 4: a text that is not UTF-8
-abbrev pub text_fault : List ℕ → Option Answer
-text_fault s = cond (well_formed s) none (some NotUtf8)
+abbrev pub text_fault : List ℕ → Option Error
+text_fault s = cond (well_formed s) None (Some NotUtf8)
 
 -- 'The answer to a call', 2, 4 and 5: what the input of a value meets
-unfoldable pub input_fault : Value → Option Answer
-input_fault (integer m k z) = none
-input_fault (char m c) = cond (is_scalar c) none (some NotAChar)
+unfoldable pub input_fault : Value → Option Error
+input_fault (integer m k z) = None
+input_fault (char m c) = cond (is_scalar c) None (Some NotAChar)
 input_fault (str m s r) = text_fault s
 input_fault (ascii m s r) = ascii_fault (ascii_from 0 s)
-input_fault (repeated c n) = none
+input_fault (repeated c n) = None
 
 -- 'The answer to a call', 3: a clamped range cuts a character
-unfoldable pub cut_fault : Value → Option Answer
-cut_fault (integer m k z) = none
-cut_fault (char m c) = none
-cut_fault (str m s r) = cond (is_boundary s (saturated s r).start && is_boundary s (saturated s r).end) none (some NotOnCharBoundary)
-cut_fault (ascii m s r) = none
-cut_fault (repeated c n) = none
+unfoldable pub cut_fault : Value → Option Error
+cut_fault (integer m k z) = None
+cut_fault (char m c) = None
+cut_fault (str m s r) = cond (is_boundary s (saturated s r).start && is_boundary s (saturated s r).end) None (Some NotOnCharBoundary)
+cut_fault (ascii m s r) = None
+cut_fault (repeated c n) = None
