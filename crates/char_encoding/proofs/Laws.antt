@@ -1,19 +1,20 @@
 -- Laws of a character's texts: the octets by range, the lengths, and the texts in arrays.
-use mathlib.Core.Bool.{Bool, true, false, ◌&&◌, ◌||◌}
+use mathlib.Core.Bool.{Bool, true, false, cond}
 use mathlib.Core.Path.{◌≡◌, refl, ◌∙◌}
 use mathlib.Core.Logic.{◌⊎◌, inl, inr, ⊎_elim}
 use mathlib.Core.List.{List, [], ◌∷◌, ◌++◌}
-use Prim.Native.Nat.{ℕ, ◌+◌, ◌-◌, ◌/◌, ◌%◌, ◌≤◌, ◌<◌}
+use Prim.Native.Nat.{ℕ, ◌+◌, ◌/◌, ◌%◌, ◌≤◌, ◌<◌}
 use native.Mathlib.Omega.{arith}
-use lib.Dec.{leb, ltb}
+use lib.Dec.{ltb}
 use lib.ListN.{length, get_or, set, length-append}
-use borrow.Author.Tests.{lt-ltb, le-ltb, le-leb, lt-leb, ltb-true, ltb-false, leb-true}
-use Rattle.error.specs.declared.Answer.TheVariants.{Done, NotAChar}
+use borrow.Author.Tests.{lt-ltb, le-ltb, le-leb, lt-leb, ltb-true, ltb-false}
+use Rattle.std.specs.Prelude.{Ok, Err}
+use Rattle.error.specs.declared.Error.TheVariants.{NotAChar}
 use Rattle.formatting.specs.Escape.{escape_of, escape_text}
 use Rattle.formatting.specs.declared.escaping.Escape.{Escape}
 use Rattle.formatting.specs.declared.escaping.Escape.TheVariants.{Bare, Backslash, Hexadecimal}
 use Rattle.utf8.specs.Utf8.{is_scalar, octets}
-use Rattle.char_encoding.specs.Char.{char_answer, char_display, char_inner, char_debug, padded}
+use Rattle.char_encoding.specs.Char.{unless_no_char, char_display, char_inner, char_debug, padded}
 
 -- RFC 3629 section 3, a row of the table for each range
 pub octets-1 : (c : ℕ) → c < 0x80 → octets c ≡ c ∷ []
@@ -76,21 +77,13 @@ display-short c = go (is_scalar c) refl
 pub low_scalar : (c : ℕ) → c < 128 → is_scalar c ≡ true
 low_scalar c h = short_scalar c (omega arith)
 
--- a character is at most 10FFFF
-pub scalar_most : (c : ℕ) → is_scalar c ≡ true → c ≤ 0x10FFFF
-scalar_most c e = go (ltb c 0xD800) refl (leb 0xE000 c) (leb c 0x10FFFF) refl e
+-- an answer of a function of a character that is no error: c is a character, and the value is the one promised
+pub told : {A : Type 0} (c : ℕ) (v a : A) → Ok v ≡ unless_no_char c a → (is_scalar c ≡ true) × (v ≡ a)
+told {A} c v a h = go (is_scalar c) refl h
   where
-    go : (x : Bool) → ltb c 0xD800 ≡ x → (y z : Bool) → leb c 0x10FFFF ≡ z → (x || (y && z)) ≡ true → c ≤ 0x10FFFF
-    go true h y z k e = omega (arith, ltb-true c 0xD800 h)
-    go false h true true k e = leb-true c 0x10FFFF k
-    go false h true false k e = let n : ◌≡◌ {A = ℕ} 0 1 = cc in absurd (omega arith)
-    go false h false z k e = let n : ◌≡◌ {A = ℕ} 0 1 = cc in absurd (omega arith)
-
-pub answer-char : (c : ℕ) → is_scalar c ≡ true → char_answer c ≡ Done
-answer-char c h = simp h
-
-pub answer-none : (c : ℕ) → is_scalar c ≡ false → char_answer c ≡ NotAChar
-answer-none c h = simp h
+    go : (b : Bool) → is_scalar c ≡ b → Ok v ≡ cond b (Ok a) (Err NotAChar) → (is_scalar c ≡ true) × (v ≡ a)
+    go true e h = (e, cc h)
+    go false e h = cc h
 
 pub inner-low : (c : ℕ) → c < 128 → char_inner c ≡ escape_text (escape_of c) c
 unfolding char_inner
@@ -111,34 +104,9 @@ inner-short c = ⊎_elim
     (λ (h : 128 ≤ c). rw (inner-high c h) (display-short c))
     (less c 128)
 
--- what has nothing between the marks is no character, and what has something is one
-pub inner-none : (c : ℕ) → length (char_inner c) ≡ 0 → is_scalar c ≡ false
-inner-none c e = go (is_scalar c) refl
-  where
-    go : (b : Bool) → is_scalar c ≡ b → b ≡ false
-    go false s = refl
-    go true s = absurd (⊎_elim
-        (λ (h : c < 128). omega (arith, (escape_short (escape_of c) c).0, rw (inner-low c h) at e))
-        (λ (h : 128 ≤ c). omega (arith, (octets-short c).0, rw (inner-high c h, display-char c s) at e))
-        (less c 128))
-
-pub inner-some : (c : ℕ) → (length (char_inner c) ≡ 0 → ⊥) → is_scalar c ≡ true
-inner-some c n = go (is_scalar c) refl
-  where
-    go : (b : Bool) → is_scalar c ≡ b → b ≡ true
-    go true s = refl
-    go false s = absurd (⊎_elim
-        (λ (h : c < 128). let z : ◌≡◌ {A = Bool} true false = cc (low_scalar c h) in let y : ◌≡◌ {A = ℕ} 0 1 = cc in omega arith)
-        (λ (h : 128 ≤ c). n (rw (inner-high c h, display-none c s)))
-        (less c 128))
-
 pub debug-some : (c : ℕ) → is_scalar c ≡ true → char_debug c ≡ 39 ∷ char_inner c ++ (39 ∷ [])
 unfolding char_debug
 debug-some c h = simp h
-
-pub debug-none : (c : ℕ) → is_scalar c ≡ false → char_debug c ≡ []
-unfolding char_debug
-debug-none c h = simp h
 
 -- a text of at most four bytes, copied from an array of four into one of six
 pub widened : (t : List ℕ) → length t ≤ 4

@@ -60,8 +60,14 @@ fn utf8_len(c: u32) -> usize
 pub fn char_debug_len(c: u32) -> Result<usize, Error>
     ensures { result ≡ char_len c (char_debug c) }
 {
-    let inner = char_inner(c)?;
-    Ok(inner.len + 2)
+    if 128 <= c {
+        return Ok(char_display_len(c)? + 2);
+    }
+    match escape_of(c as u8) {
+        Escape::Bare => Ok(3),
+        Escape::Backslash(_) => Ok(4),
+        Escape::Hexadecimal => Ok(6),
+    }
 }
 
 // The octets of c.

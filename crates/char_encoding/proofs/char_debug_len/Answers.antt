@@ -1,12 +1,27 @@
-use mathlib.Core.Path.{◌≡◌}
-use mathlib.Core.Bool.{true, false}
-use Rattle.utf8.specs.Utf8.{is_scalar}
-use Rattle.char_encoding.specs.Char.{char_inner}
-use Rattle.char_encoding.proofs.Laws.{inner-none, inner-some, debug-none, debug-some, marked-length}
+use native.Mathlib.Omega.{arith}
+use Rattle.char_encoding.specs.Char.{char_display}
+use Rattle.char_encoding.proofs.Laws.{told, display-short, low_scalar, debug-some, inner-low, inner-high, marked-length}
 use Rattle.char_encoding.proofs.char_debug_len.Goals as goal
 
-pub returns-then-len-eq0 : goal.returns-then-len-eq0
-returns-then-len-eq0 c = let e : is_scalar c.args.c ≡ false = inner-none c.args.c (rw c.char_inner-inner.ensures at c.if-len-eq0.true) in rw (c.char_inner-inner.ensures, debug-none c.args.c e)
+pub overflow_add-result : goal.overflow_add-result
+overflow_add-result c = rw (told c.args.c _ _ c.in_ok-char_display_len.ensures).1 (omega (arith, display-short c.args.c))
 
-pub returns : goal.returns
-returns c = let e : is_scalar c.args.c ≡ true = inner-some c.args.c (rw c.char_inner-inner.ensures at c.if-len-eq0.false) in rw (c.char_inner-inner.ensures, debug-some c.args.c e, marked-length 39 (char_inner c.args.c))
+pub returns-then-c-ge128 : goal.returns-then-c-ge128
+returns-then-c-ge128 c = let x = c.args.c in
+    let t = told x _ _ c.in_ok-char_display_len.ensures in
+    rw (t.0, t.1, debug-some x t.0, marked-length 39 (char_display x), inner-high x c.if-c-ge128.true)
+
+pub returns-in-Bare : goal.returns-in-Bare
+returns-in-Bare c = let x = c.args.c in
+    let e = low_scalar x c.if-c-ge128.false in
+    rw (e, debug-some x e, inner-low x c.if-c-ge128.false, ← c.in-Bare.ensures)
+
+pub returns-in-Backslash : goal.returns-in-Backslash
+returns-in-Backslash c = let x = c.args.c in
+    let e = low_scalar x c.if-c-ge128.false in
+    rw (e, debug-some x e, inner-low x c.if-c-ge128.false, ← c.in-Backslash.ensures)
+
+pub returns-in-Hexadecimal : goal.returns-in-Hexadecimal
+returns-in-Hexadecimal c = let x = c.args.c in
+    let e = low_scalar x c.if-c-ge128.false in
+    rw (e, debug-some x e, inner-low x c.if-c-ge128.false, ← c.in-Hexadecimal.ensures)

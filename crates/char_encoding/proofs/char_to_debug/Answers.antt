@@ -1,16 +1,8 @@
-use mathlib.Core.Path.{◌≡◌}
-use mathlib.Core.Bool.{true, false}
-use Rattle.utf8.specs.Utf8.{is_scalar}
-use native.Mathlib.Omega.{arith}
 use Rattle.char_encoding.specs.Char.{char_inner}
-use Rattle.char_encoding.proofs.Laws.{inner-none, inner-some, inner-short, debug-none, debug-some, marked, marked-length}
+use Rattle.char_encoding.proofs.Laws.{told, inner-short, debug-some, marked, marked-length}
 use Rattle.char_encoding.proofs.char_to_debug.Goals as goal
 
-pub returns-then-len-eq0 : goal.returns-then-len-eq0
-returns-then-len-eq0 c = let e : is_scalar c.args.c ≡ false = inner-none c.args.c (rw c.char_inner-inner.ensures at c.if-len-eq0.true) in rw (c.char_inner-inner.ensures, debug-none c.args.c e)
-
-pub bounds-encoded-len : goal.bounds-encoded-len
-bounds-encoded-len c = rw c.char_inner-inner.ensures (omega (arith, inner-short c.args.c))
-
 pub returns : goal.returns
-returns c = let e : is_scalar c.args.c ≡ true = inner-some c.args.c (rw c.char_inner-inner.ensures at c.if-len-eq0.false) in rw (c.char_inner-inner.ensures, debug-some c.args.c e, marked-length 39 (char_inner c.args.c), marked 39 (char_inner c.args.c) (inner-short c.args.c))
+returns c = let x = c.args.c in
+    let t = told x _ _ c.in_ok-len.ensures in
+    rw (t.0, t.1, debug-some x t.0, marked-length 39 (char_inner x), marked 39 (char_inner x) (inner-short x))

@@ -1,6 +1,8 @@
 use Rattle.char_encoding.specs.Char.{char_display}
-use Rattle.char_encoding.proofs.Laws.{widened, display-short}
+use Rattle.char_encoding.proofs.Laws.{told, widened, display-short}
 use Rattle.char_encoding.proofs.char_to_display.Goals as goal
 
 pub returns : goal.returns
-returns c = let e = c.char_to_utf8-u.ensures in rw (e, widened (char_display c.args.c) (display-short c.args.c))
+returns c = let x = c.args.c in
+    let t = told x _ _ c.in_ok-len.ensures in
+    rw (t.0, t.1, widened (char_display x) (display-short x))
