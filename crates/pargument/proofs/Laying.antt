@@ -1,10 +1,14 @@
 -- Digits laid in an array from its end: the start, the step and the end of the loop, in any base from 2 on.
-use Rattle.std.proofs.Common.{◌≡◌, ℕ, zero, suc, ◌-◌, ◌*◌, ◌/◌, ◌%◌, ◌<◌, ◌≤◌, List, [], ◌∷◌, ◌++◌, length, set, replicate, sym, refl, ap, ◌∙◌, ⊎_elim, append-nil, mod-eq_of_lt, div-lt_iff_lt-mul, arith, length-append}
+use Rattle.std.proofs.Common.{◌≡◌, ℕ, zero, suc, ◌-◌, ◌*◌, ◌/◌, ◌%◌, ◌^◌, ◌<◌, ◌≤◌, List, [], ◌∷◌, ◌++◌, length, set, replicate, sym, refl, ap, ◌∙◌, ⊎_elim, append-nil, mod-eq_of_lt, div-lt_iff_lt-mul, arith, lit≤, length-append}
 use native.Mathlib.Nat.{div-eq_of_lt}
 use lib.Seq.{append_snoc}
 use Rattle.pwrapper.specs.Digits.{digit_text}
-use Rattle.pwrapper.proofs.Digits.{lt_or_ge, text-low, text-step, text_pos}
+use Rattle.pwrapper.proofs.Digits.{lt_or_ge, text-low, text-step, text_pos, text-short}
 use Rattle.pargument.specs.Integer.{start_of, array_of, Ends}
+
+-- a number of 64 bits has at most 64 digits in base 2, 20 in base 10 and 16 in base 16
+pub digits_fit : (f : ℕ → ℕ) (n : ℕ) → n < 2 ^ 64 → (length (digit_text f 2 n) ≤ 64) × (length (digit_text f 10 n) ≤ 20) × (length (digit_text f 16 n) ≤ 16)
+digits_fit f n h = (text-short 2 (lit≤ tt) f 63 n h, text-short 10 (lit≤ tt) f 19 n (omega arith), text-short 16 (lit≤ tt) f 15 n h)
 
 -- what the contracts say of the start and the array
 pub settled : {size : ℕ} {array : List ℕ} {at : ℕ} {text : List ℕ} → Ends size array at text → (at ≡ start_of size text) × (array ≡ array_of size text)

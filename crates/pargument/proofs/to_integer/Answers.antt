@@ -1,4 +1,3 @@
-use Rattle.std.proofs.Common.{arith}
 use Rattle.pargument.proofs.IntegerLaws.{below-zero}
 use Rattle.pargument.proofs.Masks.{shifted-ones}
 use Rattle.pargument.proofs.to_integer.Goals as goal

@@ -1,5 +1,5 @@
 use Rattle.std.proofs.Common.{◌%◌, ◌<◌, arith, mod-eq_of_lt}
-use Rattle.pargument.proofs.Laying.{laying_start, laying_place, laying_step, laying_end}
+use Rattle.pargument.proofs.Laying.{laying_place, laying_step, laying_end}
 use Rattle.pargument.proofs.StartAndArray.digits.Goals as goal
 
 pub overflow_sub-at : goal.overflow_sub-at
