@@ -1,5 +1,5 @@
 -- An integer as an `Integer`: its parts, at any width, and the texts and bits that it stands for.
-use Rattle.std.proofs.Common.{◌≡◌, ℕ, suc, ◌+◌, ◌-◌, ◌*◌, ◌%◌, ◌^◌, ◌<◌, ◌≤◌, ℤ, pos, negsuc, refl, ap, ◌∙◌, mod-eq_of_lt, suc-mul, arith, pow_pos, pow-add, le-ltb}
+use Rattle.std.proofs.Common.{◌≡◌, ℕ, suc, ◌+◌, ◌-◌, ◌*◌, ◌%◌, ◌^◌, ◌<◌, ◌≤◌, ℤ, pos, negsuc, ap, ◌∙◌, mod-eq_of_lt, suc-mul, arith, rules, pow_pos, pow-add}
 use native.Mathlib.Nat.{mul-add-mod_self_right}
 use lib.Bits.{and_mask}
 use lib.Signed.{lt_z, mag}
@@ -7,8 +7,7 @@ use Rattle.pwrapper.specs.Number.{display_text, twos_complement}
 use Rattle.pargument.specs.Integer.{is_below_zero, integer_of, integer_bits, integer_display}
 
 pub below-zero : (z : ℤ) → lt_z z (pos 0) ≡ is_below_zero z
-below-zero (pos n) = le-ltb n 0 (omega arith)
-below-zero (negsuc n) = refl
+below-zero z = search rules
 
 -- the last k bits of the two's complement in 64 bits are that in k bits
 complement : (k n : ℕ) → k ≤ 64 → n < 2 ^ k → (2 ^ 64 - suc n) % 2 ^ 64 % 2 ^ k ≡ 2 ^ k - suc n
@@ -29,5 +28,4 @@ integer_bits_lem k (negsuc n) k64 h = rw and_mask (complement k n k64 h)
 
 -- the decimal text is that of the number
 pub integer-display : (k : ℕ) (z : ℤ) → integer_display (integer_of k z) ≡ display_text z
-integer-display k (pos n) = refl
-integer-display k (negsuc n) = refl
+integer-display k z = search rules
