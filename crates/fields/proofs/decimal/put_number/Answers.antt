@@ -26,9 +26,7 @@ bounds-buf-end c = let a = c.args in
     after-fits a.buf.now a.at a.n a.after f c.in_ok-end.ensures
 
 pub overflow_add-result : goal.overflow_add-result
-overflow_add-result c = let a = c.args in
-    let f = c.in_ok-piece_fault.ensures a.buf.now _ refl (cell-length a.n a.after c.compute_display_len.ensures) in
-    omega (arith, after-fits a.buf.now a.at a.n a.after f c.in_ok-end.ensures)
+overflow_add-result c = let h = bounds-buf-end c in omega arith
 
 pub returns : goal.returns
 returns c = let a = c.args in
