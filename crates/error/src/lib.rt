@@ -4,6 +4,8 @@
 
 ghost use Rattle.std.specs.Prelude.{◌≡◌};
 ghost use Rattle.error.specs.Answer.{number_of, is_done};
+ghost use Rattle.error.specs.Errors.{answer_number};
+ghost use Rattle.error.specs.Errors.{number_of as error_number};
 
 #[derive(Clone, Copy)]
 pub enum Answer {
@@ -54,5 +56,37 @@ impl Answer {
             Answer::WrongCall => false,
             Answer::BadCursor => false,
         }
+    }
+}
+
+#[derive(Clone, Copy, Debug, PartialEq, Eq)]
+pub enum Error {
+    NotEnoughSpace = 1,
+    NotAscii,
+    NotOnCharBoundary,
+    NotUtf8,
+    NotAChar,
+    CountTooLarge,
+    TooDeep,
+    WrongCall,
+    BadCursor,
+}
+
+// The number by which document 01 names an error.
+impl From<Error> for u8 {
+    fn from(error: Error) -> u8
+        ensures { result ≡ error_number error }
+    {
+        error as u8
+    }
+}
+
+// The number by which document 01 names an answer: 0 where nothing was met.
+pub fn answer_number(answer: Result<(), Error>) -> u8
+    ensures { result ≡ answer_number answer }
+{
+    match answer {
+        Ok(()) => 0,
+        Err(error) => u8::from(error),
     }
 }
