@@ -1,9 +1,9 @@
 -- The model's output that a WriterBackend and the lent bytes are.
-use Rattle.std.specs.Prelude.{Bool, true, false, cond, List, ℕ, zero, suc, ◌+◌, ◌%◌, ltb, Option, Some, None, Ok, Err}
+use Rattle.std.specs.Prelude.{Bool, true, false, cond, List, ℕ, zero, suc, ◌+◌, ◌%◌, ltb, Option}
 use Rattle.error.specs.declared.Error.{Error}
-use Rattle.error.specs.declared.Error.TheVariants.{NotEnoughSpace, NotAscii, NotOnCharBoundary, NotUtf8, NotAChar, CountTooLarge, TooDeep, WrongCall, BadCursor}
+use Rattle.error.specs.declared.Error.TheVariants.{NotEnoughSpace, CountTooLarge}
 use Rattle.error.specs.Answer.{number_of as answer_of}
-use Rattle.error.specs.Errors.{Answer, done, number_of, answer_number}
+use Rattle.error.specs.Errors.{Answer, done, number_of, fault_number, answer_number}
 use Rattle.str_writer.specs.declared.piece.Written.{Written}
 use Rattle.calls.specs.Model.{Mode, counting, writing, number_in, Output, PieceOutcome, to, most}
 use Rattle.writer_backend.specs.declared.pieces.WriterBackend.{WriterBackend}
@@ -43,23 +43,15 @@ put_out r w b = record { answer = answer_number r; output = output_of w b }
 abbrev pub moved_by : Mode → List ℕ → Written → PieceOutcome
 moved_by m b w = to (with_number m w.at) b (answer_of w.answer)
 
--- docs/DECISIONS.md, 'The formatter': a builder holds nothing, 1 or 6, whatever a made-up one says, since a piece is refused with nothing else
-abbrev pub held_number : Option Error → ℕ
-held_number None = done
-held_number (Some NotEnoughSpace) = number_of NotEnoughSpace
-held_number (Some NotAscii) = number_of CountTooLarge
-held_number (Some NotOnCharBoundary) = number_of CountTooLarge
-held_number (Some NotUtf8) = number_of CountTooLarge
-held_number (Some NotAChar) = number_of CountTooLarge
-held_number (Some CountTooLarge) = number_of CountTooLarge
-held_number (Some TooDeep) = number_of CountTooLarge
-held_number (Some WrongCall) = number_of CountTooLarge
-held_number (Some BadCursor) = number_of CountTooLarge
+-- Document 01, 'A nested record': a piece is refused with 1 or 6, so what a builder holds is nothing or one of these, whatever the number is
+abbrev pub held_of : ℕ → ℕ
+held_of zero = done
+held_of (suc zero) = number_of NotEnoughSpace
+held_of (suc (suc n)) = number_of CountTooLarge
 
--- Document 01, 'A nested record': what a builder holds of an answer
-abbrev pub held_answer : Answer → ℕ
-held_answer (Ok u) = done
-held_answer (Err e) = held_number (Some e)
+-- docs/DECISIONS.md, 'The formatter': the number that a builder holds, 6 for a made-up one
+abbrev pub held_number : Option Error → ℕ
+held_number h = held_of (fault_number h)
 
 -- Document 01, 'A nested record', field or entry: what a builder holds, with the output as it is then
 abbrev pub held_out : Option Error → WriterBackend → List ℕ → PieceOutcome

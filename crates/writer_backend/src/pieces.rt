@@ -4,7 +4,7 @@ ghost use Rattle.error.specs.Errors.{answer_number};
 ghost use Rattle.calls.specs.Call.{spaces, hold};
 ghost use Rattle.calls.specs.Model.{counting, writing, beyond};
 ghost use Rattle.calls.specs.Model.{put as put_text};
-ghost use Rattle.writer_backend.specs.Output.{mode_of, is_counting, moved_by, added, output_of, put_out, held_number, held_answer, held_out};
+ghost use Rattle.writer_backend.specs.Output.{mode_of, is_counting, moved_by, added, output_of, put_out, held_of, held_number, held_out};
 ghost use Rattle.writer_backend.specs.Pieces.{try_on};
 
 use crate::answers::of_answer;
@@ -125,7 +125,7 @@ impl WriterBackend {
 
 // The first refusal is held.
 fn hold(held: &mut Option<Error>, answer: Result<(), Error>)
-    ensures { held_number held.new ≡ hold (held_number held.old) (held_answer answer) }
+    ensures { held_number held.new ≡ hold (held_number held.old) (held_of (answer_number answer)) }
 {
     if let Err(error) = answer {
         held.get_or_insert(error);
