@@ -37,70 +37,28 @@ use Rattle.writer_backend.specs.Output.{mode_of, output_of}
 use Rattle.writer_backend.proofs.Sequence.{hold-zero}
 use Rattle.value_writes.specs.Values.{bits_of, integer_of, heeded_by, text_of_parts, judged_in, value_out}
 
--- the number of an answer by whether it is 0
-by_done : (a : Answer) → number_of a ≡ cond (is_done a) 0 (suc (number_of a - 1))
-by_done Done = refl
-by_done NotEnoughSpace = refl
-by_done NotAscii = refl
-by_done NotOnCharBoundary = refl
-by_done NotUtf8 = refl
-by_done NotAChar = refl
-by_done CountTooLarge = refl
-by_done TooDeep = refl
-by_done WrongCall = refl
-by_done BadCursor = refl
-
--- what `!fault.is_done()` tells of a fault's number
-module _ (a : Answer) {d : Bool} (t : d ≡ is_done a) where
-  pub number-met : d ≡ false → number_of a ≡ suc (number_of a - 1)
-  number-met n = let q : is_done a ≡ false = sym t ∙ n in rw q at (by_done a)
-
-  pub number-done : d ≡ true → number_of a ≡ 0
-  number-done n = let q : is_done a ≡ true = sym t ∙ n in rw q at (by_done a)
-
--- a value that no range cuts is judged by its input
-pub judged_uncut : (m : Mode) (v : Value) (a : Answer) → a ≡ answer_of (input_fault v) → cut_fault v ≡ none → number_of a ≡ judged_in m v
-judged_uncut (counting n) v a e u = rw e (sym (hold-zero (fault_number (input_fault v))))
-judged_uncut (writing p) v a e u = rw (e, u) (sym (hold-zero (fault_number (input_fault v))))
-
--- a string: 4, then 3 in writing
-module _ (m : Mode) (v : Value) (a : Answer) (e : a ≡ answer_of (input_fault v)) {d : Bool} (t : d ≡ is_done a) where
-  pub judged-met : d ≡ false → number_of a ≡ judged_in m v
-  judged-met n = rw (← e, number-met a t n)
-
-  pub judged-counting : d ≡ true → {n : ℕ} → m ≡ counting n → 0 ≡ judged_in m v
-  judged-counting n q = rw (← e, number-done a t n, q)
-
-  pub judged-writing : d ≡ true → {n : ℕ} → m ≡ writing n → {r : Answer} → r ≡ answer_of (cut_fault v) → number_of r ≡ judged_in m v
-  judged-writing n q h = rw (← e, number-done a t n, q, h)
-
-module _ (m : WriterBackend) (b : List ℕ) (f : FormattingFlags) (v : Value) where
-  -- 9 before all
-  pub value_past : (a : ℕ) → a ≡ beyond (mode_of m) b → (a ≡ 0 → ⊥) → to (mode_of m) b a ≡ value_out m b f v
+-- a value judged: 9 before all, then a fault that it meets, else its text is counted or placed
+module _ (w : WriterBackend) (b : List ℕ) (f : FormattingFlags) (v : Value) where
+  pub value_past : (e : Error) → number_of e ≡ beyond (mode_of w) b → to (mode_of w) b (number_of e) ≡ value_out w b f v
   unfolding value_out
-  value_past zero e n = absurd (n refl)
-  value_past (suc a) e n = rw (← e)
+  value_past e p = rw (← p, error_number e)
 
-  -- a cursor within the bytes: a fault that is met is answered, else the text is counted or placed
-  module _ (h : beyond (mode_of m) b ≡ 0) (a : Answer) (e : number_of a ≡ judged_in (mode_of m) v) {d : Bool} (t : d ≡ is_done a) where
-    pub value-refused : d ≡ false → {r : PieceOutcome} → r ≡ to (mode_of m) b (number_of a) → r ≡ value_out m b f v
+  module _ (h : beyond (mode_of w) b ≡ 0) where
+    pub value-refused : (e : Error) → number_of e ≡ judged_in (mode_of w) v → to (mode_of w) b (number_of e) ≡ value_out w b f v
     unfolding value_out
-    value-refused n p = p ∙ rw (h, ← e, number-met a t n)
+    value-refused e p = rw (h, ← p, error_number e)
 
-    emitted : d ≡ true → put (output_of m b) (text_of f v) ≡ value_out m b f v
+    pub value-emitted : 0 ≡ judged_in (mode_of w) v → put (output_of w b) (text_of f v) ≡ value_out w b f v
     unfolding value_out
-    emitted n = rw (h, ← e, number-done a t n)
+    value-emitted p = rw (h, ← p)
 
-    pub value-counted : d ≡ true → mode_of m ≡ counting m.number → {r : PieceOutcome} → r ≡ put_in (mode_of m) b (text_of f v) → r ≡ value_out m b f v
-    value-counted n q p = p ∙ (rw q) ∙ emitted n
-
-    pub value-placed : d ≡ true → mode_of m ≡ writing m.number → {o : Outcome} → o ≡ put_text b m.number (text_of f v) → wrote o ≡ value_out m b f v
-    unfolding put_text
-    value-placed n q p = ap wrote p ∙ by_test (ltb (length b) m.number) (placed b m.number (text_of f v)) (rw q at h) ∙ (rw q) ∙ emitted n
-      where
-        by_test : (t : Bool) (o : Outcome) → fault_number (cond t (some BadCursor) none) ≡ 0 → wrote (unless (cond t (some BadCursor) none) b m.number o) ≡ wrote o
-        by_test true o z = absurd (omega (arith, z))
-        by_test false o z = refl
+-- a cursor within the bytes
+pub within : (w : WriterBackend) (b : List ℕ) → mode_of w ≡ writing w.number → beyond (mode_of w) b ≡ 0 → w.number ≤ length b
+within w b e h = by_test (ltb (length b) w.number) refl (rw e at h)
+  where
+    by_test : (t : Bool) → ltb (length b) w.number ≡ t → fault_number (cond t (some BadCursor) none) ≡ 0 → w.number ≤ length b
+    by_test true e z = absurd (omega (arith, z))
+    by_test false e z = ltb-false (length b) w.number e
 
 -- what holds of every integer, of any width, holds of one by its type
 pub by_type : (P : Value → Type 0) (m : Form) → ((k : ℕ) (z : ℤ) → P (integer m k z)) → (x : Integer) → P (integer_of m x)
