@@ -1,5 +1,5 @@
 -- The length of a quoted string: what the escapes of its bytes add to them.
-use Rattle.std.specs.Prelude.{◌≡◌, ℕ, suc, ◌+◌, ◌^◌, ◌<◌, ◌≤◌, cond, List, [], ◌∷◌, ◌++◌, length, get_or, take, drop}
+use Rattle.std.specs.Prelude.{◌≡◌, ℕ, suc, ◌+◌, ◌^◌, ◌<◌, ◌≤◌, cond, List, [], ◌∷◌, ◌++◌, length, get_or, take, drop, Ok, Err}
 use mathlib.Core.Path.{refl, sym}
 use mathlib.Core.List.{append_assoc, append-nil}
 use native.Mathlib.Omega.{arith}
@@ -7,7 +7,7 @@ use native.Mathlib.Numerals.{add-one}
 use lib.ListN.{length-append, take-append-drop}
 use lib.Seq.{slice, slice-cons, slice_empty, take-length}
 use borrow.Author.Tests.{lt-ltb, le-ltb}
-use Rattle.error.specs.declared.Answer.TheVariants.{Done, CountTooLarge}
+use Rattle.error.specs.declared.Error.TheVariants.{CountTooLarge}
 use Rattle.formatting.specs.declared.escaping.Escape.{Escape}
 use Rattle.formatting.specs.declared.escaping.Escape.TheVariants.{Bare, Backslash, Hexadecimal}
 use Rattle.formatting.specs.Escape.{escape_of, escape_text, is_escaped, is_letter, escaped, quoted}
@@ -65,8 +65,8 @@ module _ {s : List ℕ} {sum i : ℕ} (p : Passed s 0 sum i) where
       rw length-append (omega (arith, p.all))
 
 -- a count that fits, and one that does not
-pub count_fits : (n : ℕ) → n < 2 ^ 64 → count_of n ≡ record { len = n; answer = Done }
+pub count_fits : (n : ℕ) → n < 2 ^ 64 → count_of n ≡ Ok n
 count_fits n h = rw (lt-ltb n (2 ^ 64) h)
 
-pub count-passes : (n : ℕ) → 2 ^ 64 ≤ n → count_of n ≡ record { len = 0; answer = CountTooLarge }
+pub count-passes : (n : ℕ) → 2 ^ 64 ≤ n → count_of n ≡ Err CountTooLarge
 count-passes n h = rw (le-ltb n (2 ^ 64) h)

@@ -1,21 +1,14 @@
 // The length of a quoted string.
-ghost use Rattle.std.specs.Prelude.{◌≡◌, ◌+◌, ◌<◌, ◌≤◌, length};
+ghost use Rattle.std.specs.Prelude.{◌≡◌, ◌+◌, ◌<◌, ◌≤◌, length, Err};
 ghost use Rattle.std.proofs.Math.Seq.{slice};
-ghost use Rattle.error.specs.declared.Answer.TheVariants.{CountTooLarge};
+ghost use Rattle.error.specs.declared.Error.TheVariants.{CountTooLarge};
 ghost use Rattle.utils.specs.Text.{part};
 ghost use Rattle.formatting.specs.Escape.{escape_of, escape_text, escaped, quoted};
 ghost use Rattle.pwrapper.specs.QuotedCount.{count_of};
 
-use error::Answer;
+use error::Error;
 use formatting::{is_backslash_escaped, is_escaped};
 use utils::{Range, saturate_range};
-
-// A length, or CountTooLarge and 0 where it is above 2^64 - 1.
-#[derive(Clone, Copy)]
-pub struct DebugLen {
-    pub len: usize,
-    pub answer: Answer,
-}
 
 // Below this length a text is counted byte by byte.
 const SHORT: usize = 16;
@@ -24,7 +17,7 @@ const SHORT: usize = 16;
 const TURN: usize = 64;
 
 // How long a string is between quotation marks, its escapes included.
-pub fn compute_utf8_debug_len(s: &[u8]) -> DebugLen
+pub fn compute_utf8_debug_len(s: &[u8]) -> Result<usize, Error>
     ensures { result ≡ count_of (length (quoted s.now)) }
 {
     if s.len() < SHORT {
@@ -34,12 +27,10 @@ pub fn compute_utf8_debug_len(s: &[u8]) -> DebugLen
 }
 
 // The length of the clamped range, quoted.
-pub fn compute_utf8_debug_len_in_range(s: &[u8], range: Range) -> DebugLen
+pub fn compute_utf8_debug_len_in_range(s: &[u8], range: Range) -> Result<usize, Error>
     ensures { result ≡ count_of (length (quoted (part s.now range))) }
 {
-    let clamped = saturate_range(s, range);
-    let start = clamped.start;
-    let end = clamped.end;
+    let Range { start, end } = saturate_range(s, range);
     if end - start < SHORT {
         return few_len(&s[start..end]);
     }
@@ -47,7 +38,7 @@ pub fn compute_utf8_debug_len_in_range(s: &[u8], range: Range) -> DebugLen
 }
 
 // The same of a short text, byte by byte: the compiler can lay these steps into the caller.
-fn few_len(s: &[u8]) -> DebugLen
+fn few_len(s: &[u8]) -> Result<usize, Error>
     requires { length s.now < 16 }
     ensures { result ≡ count_of (length (quoted s.now)) }
 {
@@ -65,14 +56,11 @@ fn few_len(s: &[u8]) -> DebugLen
         }
         i += 1;
     }
-    DebugLen {
-        len: s.len() + 2 + letters + 3 * codes,
-        answer: Answer::Done,
-    }
+    Ok(s.len() + 2 + letters + 3 * codes)
 }
 
 // The same of any text, from the costs of up to 64 bytes at a time.
-fn long_len(s: &[u8]) -> DebugLen
+fn long_len(s: &[u8]) -> Result<usize, Error>
     ensures { result ≡ count_of (length (quoted s.now)) }
 {
     let mut more: usize = 0;
@@ -137,7 +125,7 @@ fn cost_of(b: u8) -> u8
 }
 
 // The bytes, the marks, and what the escapes add.
-fn debug_len(bytes: usize, more: usize) -> DebugLen
+fn debug_len(bytes: usize, more: usize) -> Result<usize, Error>
     ensures { result ≡ count_of (bytes + 2 + more) }
 {
     let most = usize::MAX;
@@ -148,18 +136,12 @@ fn debug_len(bytes: usize, more: usize) -> DebugLen
     if most - marked < more {
         return too_large();
     }
-    DebugLen {
-        len: marked + more,
-        answer: Answer::Done,
-    }
+    Ok(marked + more)
 }
 
 // A length above 2^64 - 1.
-fn too_large() -> DebugLen
-    ensures { result ≡ record { len = 0; answer = CountTooLarge } }
+fn too_large() -> Result<usize, Error>
+    ensures { result ≡ Err CountTooLarge }
 {
-    DebugLen {
-        len: 0,
-        answer: Answer::CountTooLarge,
-    }
+    Err(Error::CountTooLarge)
 }
