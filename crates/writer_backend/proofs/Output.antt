@@ -8,8 +8,9 @@ use lib.Dec.{eqb}
 use lib.ListN.{length}
 use borrow.Author.Tests.{lt-ltb}
 use Rattle.calls.specs.Model.{number_in, to, counting, writing, put_in, put, wrote}
-use Rattle.str_writer.specs.declared.piece.Written.{Written}
-use Rattle.str_writer.specs.Write.{outcome, placed}
+use Rattle.std.specs.Prelude.{Result}
+use Rattle.error.specs.declared.Error.{Error}
+use Rattle.str_writer.specs.Write.{written as written_at, outcome, placed}
 use Rattle.str_writer.specs.Write.{put as put_text}
 use Rattle.str_writer.proofs.Outcomes.{put-placed}
 use Rattle.writer_backend.specs.declared.pieces.WriterBackend.{WriterBackend}
@@ -64,8 +65,9 @@ module _ (w : WriterBackend) (b : List ℕ) (e : mode_of w ≡ writing w.number)
   put-writes h = rw (e, ← put-placed b w.number s h)
 
 -- a single write at a cursor within the bytes, as a piece
-pub written : (w : WriterBackend) {r : Bool} → r ≡ is_counting (mode_of w) → r ≡ false → (b : List ℕ) {b' : List ℕ} (t : List ℕ) (x : Written) → w.number ≤ length b → outcome x b' ≡ put_text b w.number t → moved_by (mode_of w) b' x ≡ put (output_of w b) t
+pub written : (w : WriterBackend) {r : Bool} → r ≡ is_counting (mode_of w) → r ≡ false → (b : List ℕ) {b' : List ℕ} (t : List ℕ) (x : Result ℕ Error) → w.number ≤ length b → outcome (written_at w.number x) b' ≡ put_text b w.number t
+    → moved_by (mode_of w) b' (written_at w.number x) ≡ put (output_of w b) t
 written w e q b {b'} t x h p =
     let m = writes w e q in
-    let same : moved_by (mode_of w) b' x ≡ wrote (outcome x b') = rw m in
+    let same : moved_by (mode_of w) b' (written_at w.number x) ≡ wrote (outcome (written_at w.number x) b') = rw m in
     same ∙ ap wrote p ∙ put-writes w b m t h
