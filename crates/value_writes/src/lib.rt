@@ -200,12 +200,7 @@ fn debug_len(is_negative: bool, n: u64, bits: u64, flags: FormattingFlags) -> us
     }
 }
 
-fn put_char(
-    writer: &mut WriterBackend,
-    buf: &mut [u8],
-    form: Form,
-    c: u32,
-) -> Result<(), Error>
+fn put_char(writer: &mut WriterBackend, buf: &mut [u8], form: Form, c: u32) -> Result<(), Error>
     requires { beyond (mode_of writer.old) buf.old ≡ done }
     ensures { (f : Flags.FormattingFlags) → put_out result writer.new buf.new ≡ value_out writer.old buf.old f (char (form_of form) c) }
 {
@@ -311,12 +306,7 @@ fn add_string(writer: &mut WriterBackend, form: Form, s: &[u8], range: Range) ->
     }
 }
 
-fn put_repeated(
-    writer: &mut WriterBackend,
-    buf: &mut [u8],
-    c: u8,
-    n: usize,
-) -> Result<(), Error>
+fn put_repeated(writer: &mut WriterBackend, buf: &mut [u8], c: u8, n: usize) -> Result<(), Error>
     requires { beyond (mode_of writer.old) buf.old ≡ done }
     ensures { put_out result writer.new buf.new ≡ put (output_of writer.old buf.old) (replicate n (c % 128)) }
 {
