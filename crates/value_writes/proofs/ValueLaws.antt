@@ -1,6 +1,6 @@
 -- A value judged, then emitted: the fault that it meets, or its text placed or counted; and the parts of its length.
 use mathlib.Core.Bool.{Bool, true, false, cond}
-use mathlib.Core.Option.{none, some}
+use Rattle.std.specs.Prelude.{Option, Some, None, Result, Ok, Err}
 use mathlib.Core.Path.{◌≡◌, refl, sym}
 use mathlib.Core.List.{List, [], ◌∷◌, ◌++◌}
 use Prim.Native.Nat.{ℕ, ◌+◌, ◌-◌, ◌≤◌}
@@ -10,24 +10,22 @@ use lib.IntN.{ℤ, pos}
 use lib.ListN.{length}
 use lib.Seq.{length-slice}
 use borrow.Author.Tests.{lt-ltb, ltb-false}
-use Rattle.error.specs.declared.Answer.TheVariants.{BadCursor}
 use Rattle.error.specs.declared.Error.{Error}
-use Rattle.error.specs.Errors.{number_of}
+use Rattle.error.specs.declared.Error.TheVariants.{CountTooLarge, BadCursor}
+use Rattle.error.specs.Answer.{Answer, number_of, fault_number, answer_of, answer_number}
 use Rattle.formatting.specs.declared.flags.FormattingFlags.{FormattingFlags}
 use Rattle.formatting.specs.declared.flags.NumberFormatting.{NumberFormatting}
 use Rattle.formatting.specs.declared.flags.NumberFormatting.TheVariants.{Decimal, Hexadecimal, Binary}
 use Rattle.formatting.specs.Escape.{quoted}
 use Rattle.utils.specs.declared.Range.{Range}
 use Rattle.utils.specs.Text.{saturated, part}
-use Rattle.pwrapper.specs.declared.quoted.DebugLen.{DebugLen}
 use Rattle.pwrapper.specs.Number.{decimal, display_text, twos_complement, debug_in, debug_parts}
 use Rattle.pwrapper.specs.QuotedCount.{count_of}
 use Rattle.str_writer.specs.Value.{Form, display, debug, Value, integer, text_of, input_fault, cut_fault}
-use Rattle.str_writer.specs.declared.piece.Written.{Written}
-use Rattle.str_writer.specs.Write.{outcome}
+use Rattle.str_writer.specs.Write.{written as written_at, outcome}
 use Rattle.str_writer.specs.Write.{put as put_text}
 use Rattle.pwrapper.proofs.Ranges.{clamped_end}
-use Rattle.calls.specs.Call.{fault_number, hold}
+use Rattle.calls.specs.Call.{hold}
 use Rattle.calls.specs.Model.{Mode, counting, writing, to, most, put_in, put, cut_in, beyond}
 use Rattle.writer_backend.specs.declared.pieces.WriterBackend.{WriterBackend}
 use Rattle.quoted_writes.proofs.Quoting.{count-above}
@@ -38,6 +36,11 @@ use Rattle.writer_backend.specs.Output.{mode_of, is_counting, moved_by, output_o
 use Rattle.writer_backend.proofs.Output.{writes, written}
 use Rattle.writer_backend.proofs.Sequence.{error_number, hold-zero}
 use Rattle.value_writes.specs.Values.{bits_of, integer_of, heeded_by, text_of_parts, judged_in, value_out}
+
+-- the number of what a judge answers
+pub fault_met : (f : Option Error) (x : Answer) → x ≡ answer_of f → answer_number x ≡ fault_number f
+fault_met None x h = rw h refl
+fault_met (Some e) x h = rw h refl
 
 -- a value is judged by its input, then, in writing, by its range
 module _ (m : Mode) (v : Value) where
@@ -51,7 +54,7 @@ module _ (m : Mode) (v : Value) where
   judged_writing q p = rw (← p, q)
 
   -- one that no range cuts
-  pub judged_uncut : cut_fault v ≡ none → fault_number (input_fault v) ≡ judged_in m v
+  pub judged_uncut : cut_fault v ≡ None → fault_number (input_fault v) ≡ judged_in m v
   judged_uncut u = rw u (go m)
     where
       go : (m : Mode) → fault_number (input_fault v) ≡ hold (fault_number (input_fault v)) (cut_in m 0)
@@ -74,10 +77,11 @@ module _ (w : WriterBackend) (b : List ℕ) (f : FormattingFlags) (v : Value) wh
     value-emitted p = rw (h, ← p)
 
 -- a single write at a cursor that does not meet 9, as a piece
-pub written_within : (w : WriterBackend) {r : Bool} → r ≡ is_counting (mode_of w) → r ≡ false → (b : List ℕ) → beyond (mode_of w) b ≡ 0 → {b' : List ℕ} (t : List ℕ) (x : Written) → outcome x b' ≡ put_text b w.number t → moved_by (mode_of w) b' x ≡ put (output_of w b) t
+pub written_within : (w : WriterBackend) {r : Bool} → r ≡ is_counting (mode_of w) → r ≡ false → (b : List ℕ) → beyond (mode_of w) b ≡ 0 → {b' : List ℕ} (t : List ℕ) (x : Result ℕ Error) → outcome (written_at w.number x) b' ≡ put_text b w.number t
+    → moved_by (mode_of w) b' (written_at w.number x) ≡ put (output_of w b) t
 written_within w e q b h t x = written w e q b t x (by_test (ltb (length b) w.number) refl (rw (writes w e q) at h))
   where
-    by_test : (t : Bool) → ltb (length b) w.number ≡ t → fault_number (cond t (some BadCursor) none) ≡ 0 → w.number ≤ length b
+    by_test : (t : Bool) → ltb (length b) w.number ≡ t → fault_number (cond t (Some BadCursor) None) ≡ 0 → w.number ≤ length b
     by_test true e z = absurd (omega (arith, z))
     by_test false e z = ltb-false (length b) w.number e
 
@@ -110,6 +114,4 @@ integer-text debug f k z p e t b = rw e (by_format f.num_fmt)
 pub clamped_length : (s : List ℕ) (r q : Range) → q ≡ saturated s r → q.end - q.start ≡ length (part s r)
 clamped_length s r q e = rw e (sym (length-slice (saturated s r).start (saturated s r).end s (clamped_end s r (saturated s r) refl)))
 
--- a quoted text whose count is 0 has more than 2^64 - 1 bytes
-pub quoted-refused : (t : List ℕ) (q : DebugLen) → q ≡ count_of (length (quoted t)) → (n : ℕ) (b : List ℕ) → q.len ≡ 0 → to (counting n) b 6 ≡ put_in (counting n) b (quoted t)
-quoted-refused t q e n b z = rw (lt-ltb most (n + length (quoted t)) (omega (arith, count-above t q e z)))
+-- a quoted text that has more than 2^64 - 1 bytes is refused with 6

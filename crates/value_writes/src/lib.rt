@@ -4,13 +4,13 @@
 mod integer_value;
 
 ghost use Rattle.std.specs.Prelude.{◌≡◌, true, List, ℕ, ◌+◌, ◌%◌, ◌^◌, length, replicate};
-ghost use Rattle.error.specs.Errors.{done, answer_number};
+ghost use Rattle.error.specs.Answer.{done, fault_number, answer_number};
 ghost use Rattle.formatting.specs.declared.flags.FormattingFlags as Flags;
 ghost use Rattle.utils.specs.Text.{part};
+ghost use Rattle.char_encoding.specs.Char.{unless_no_char};
 ghost use Rattle.pwrapper.specs.Number.{debug_parts, twos_complement};
 ghost use Rattle.str_writer.specs.Value.{char, str, ascii, text_of, string_text, input_fault, cut_fault};
 ghost use Rattle.str_writer.specs.Value.{Form as ValueForm};
-ghost use Rattle.calls.specs.Call.{fault_number};
 ghost use Rattle.calls.specs.Model.{put, beyond};
 ghost use Rattle.writer_backend.specs.Output.{mode_of, is_counting, output_of, put_out};
 ghost use Rattle.value_writes.specs.Values.{form_of, bits_of, heeded_by, integer_of, text_of_parts, value_of, judged_in, value_out};
@@ -26,7 +26,7 @@ use str_writer::{
     ascii_fault, char_fault, put_char_debug, put_part, range_fault, str_fault, write_ascii_repeated,
 };
 use utils::{Range, saturate_range};
-use writer_backend::{WriterBackend, of_answer};
+use writer_backend::WriterBackend;
 
 #[derive(Clone, Copy)]
 pub enum Form {
@@ -76,9 +76,9 @@ pub fn value_fault(v: PVariant, s: &[u8]) -> Result<(), Error>
 {
     match v {
         PVariant::Int(_, _) | PVariant::Repeated(_, _) => Ok(()),
-        PVariant::Char(_, c) => of_answer(char_fault(c)),
-        PVariant::Str(_, _) => of_answer(str_fault(s)),
-        PVariant::Ascii(_, _) => of_answer(ascii_fault(s)),
+        PVariant::Char(_, c) => char_fault(c),
+        PVariant::Str(_, _) => str_fault(s),
+        PVariant::Ascii(_, _) => ascii_fault(s),
     }
 }
 
@@ -87,7 +87,7 @@ pub fn cut_fault(v: PVariant, s: &[u8]) -> Result<(), Error>
     ensures { answer_number result ≡ fault_number (cut_fault (value_of v s.now)) }
 {
     match v {
-        PVariant::Str(_, range) => of_answer(range_fault(s, range)),
+        PVariant::Str(_, range) => range_fault(s, range),
         PVariant::Int(_, _)
         | PVariant::Char(_, _)
         | PVariant::Ascii(_, _)
@@ -204,9 +204,9 @@ fn put_char(writer: &mut WriterBackend, buf: &mut [u8], form: Form, c: u32) -> R
     requires { beyond (mode_of writer.old) buf.old ≡ done }
     ensures { (f : Flags.FormattingFlags) → put_out result writer.new buf.new ≡ value_out writer.old buf.old f (char (form_of form) c) }
 {
-    of_answer(char_fault(c))?;
+    char_fault(c)?;
     if writer.is_counting() {
-        return writer.add_len(char_len(form, c));
+        return writer.add_len(char_len(form, c)?);
     }
     let at = writer.number;
     match form {
@@ -215,12 +215,12 @@ fn put_char(writer: &mut WriterBackend, buf: &mut [u8], form: Form, c: u32) -> R
     }
 }
 
-fn char_len(form: Form, c: u32) -> usize
-    ensures { (f : Flags.FormattingFlags) → result ≡ length (text_of f (char (form_of form) c)) }
+fn char_len(form: Form, c: u32) -> Result<usize, Error>
+    ensures { (f : Flags.FormattingFlags) → result ≡ unless_no_char c (length (text_of f (char (form_of form) c))) }
 {
     match form {
-        Form::Display => char_display_len(c).len,
-        Form::Debug => char_debug_len(c).len,
+        Form::Display => char_display_len(c),
+        Form::Debug => char_debug_len(c),
     }
 }
 
@@ -228,11 +228,11 @@ fn char_len(form: Form, c: u32) -> usize
 fn judge_str(writer: WriterBackend, s: &[u8], range: Range) -> Result<(), Error>
     ensures { (form : ValueForm) → answer_number result ≡ judged_in (mode_of writer) (str form s.now range) }
 {
-    of_answer(str_fault(s))?;
+    str_fault(s)?;
     if writer.is_counting() {
         return Ok(());
     }
-    of_answer(range_fault(s, range))
+    range_fault(s, range)
 }
 
 fn put_str(
@@ -259,7 +259,7 @@ fn put_ascii(
     requires { beyond (mode_of writer.old) buf.old ≡ done }
     ensures { (f : Flags.FormattingFlags) → put_out result writer.new buf.new ≡ value_out writer.old buf.old f (ascii (form_of form) s.now range) }
 {
-    of_answer(ascii_fault(s))?;
+    ascii_fault(s)?;
     put_string(writer, buf, form, s, range)
 }
 
@@ -297,11 +297,7 @@ fn add_string(writer: &mut WriterBackend, form: Form, s: &[u8], range: Range) ->
             writer.add_len(end - start)
         }
         Form::Debug => {
-            let len = compute_utf8_debug_len_in_range(s, range).len;
-            if len == 0 {
-                return Err(Error::CountTooLarge);
-            }
-            writer.add_len(len)
+            writer.add_len(compute_utf8_debug_len_in_range(s, range)?)
         }
     }
 }
