@@ -1,9 +1,9 @@
 -- A value judged, then emitted: the fault that it meets, or its text placed or counted; and the parts of its length.
 use mathlib.Core.Bool.{Bool, true, false, cond}
-use Rattle.std.specs.Prelude.{Option, Some, None, Result, Ok, Err}
+use Rattle.std.specs.Prelude.{Option, Some, None, Result, Ok, Err, nat_lt}
 use mathlib.Core.Path.{◌≡◌, refl, sym}
 use mathlib.Core.List.{List, [], ◌∷◌, ◌++◌}
-use Prim.Native.Nat.{ℕ, ◌+◌, ◌-◌, ◌≤◌}
+use Prim.Native.Nat.{ℕ, ◌+◌, ◌-◌, ◌≤◌, ◌^◌}
 use native.Mathlib.Omega.{arith}
 use lib.Dec.{ltb}
 use lib.IntN.{ℤ, pos}
@@ -11,24 +11,24 @@ use lib.ListN.{length}
 use lib.Seq.{length-slice}
 use borrow.Author.Tests.{lt-ltb, ltb-false}
 use Rattle.error.specs.declared.Error.{Error}
-use Rattle.error.specs.declared.Error.TheVariants.{CountTooLarge, BadCursor}
+use Rattle.error.specs.declared.Error.TheVariants.{NotAChar, CountTooLarge, BadCursor}
 use Rattle.error.specs.Answer.{Answer, number_of, fault_number, answer_of, answer_number}
 use Rattle.formatting.specs.declared.flags.FormattingFlags.{FormattingFlags}
 use Rattle.formatting.specs.declared.flags.NumberFormatting.{NumberFormatting}
 use Rattle.formatting.specs.declared.flags.NumberFormatting.TheVariants.{Decimal, Hexadecimal, Binary}
-use Rattle.formatting.specs.Escape.{quoted}
+use Rattle.utf8.specs.Utf8.{is_scalar}
+use Rattle.char_encoding.specs.Char.{unless_no_char}
 use Rattle.utils.specs.declared.Range.{Range}
 use Rattle.utils.specs.Text.{saturated, part}
 use Rattle.pwrapper.specs.Number.{decimal, display_text, twos_complement, debug_in, debug_parts}
 use Rattle.pwrapper.specs.QuotedCount.{count_of}
-use Rattle.str_writer.specs.Value.{Form, display, debug, Value, integer, text_of, input_fault, cut_fault}
+use Rattle.str_writer.specs.Value.{Form, display, debug, Value, integer, char, text_of, input_fault, cut_fault}
 use Rattle.str_writer.specs.Write.{written as written_at, outcome}
 use Rattle.str_writer.specs.Write.{put as put_text}
 use Rattle.pwrapper.proofs.Ranges.{clamped_end}
 use Rattle.calls.specs.Call.{hold}
 use Rattle.calls.specs.Model.{Mode, counting, writing, to, most, put_in, put, cut_in, beyond}
 use Rattle.writer_backend.specs.declared.pieces.WriterBackend.{WriterBackend}
-use Rattle.quoted_writes.proofs.Quoting.{count-above}
 use Rattle.value_writes.specs.declared.Integer.{Integer}
 use Rattle.value_writes.specs.declared.Integer.TheVariants.{Unsigned, Signed}
 use Rattle.value_writes.specs.declared.Parts.{Parts}
@@ -114,4 +114,38 @@ integer-text debug f k z p e t b = rw e (by_format f.num_fmt)
 pub clamped_length : (s : List ℕ) (r q : Range) → q ≡ saturated s r → q.end - q.start ≡ length (part s r)
 clamped_length s r q e = rw e (sym (length-slice (saturated s r).start (saturated s r).end s (clamped_end s r (saturated s r) refl)))
 
--- a quoted text that has more than 2^64 - 1 bytes is refused with 6
+-- what a count says of a text: its length, or that it has more than 2^64 - 1 bytes, which is refused with 6
+pub count_ok : (n k : ℕ) → Ok k ≡ count_of n → k ≡ n
+count_ok n k e = go (nat_lt n (2 ^ 64)) e
+  where
+    go : (t : Bool) → ◌≡◌ {A = Result ℕ Error} (Ok k) (cond t (Ok n) (Err CountTooLarge)) → k ≡ n
+    go true e = cc e
+    go false e = cc e
+
+pub count-refused : (t : List ℕ) (e : Error) → Err e ≡ count_of (length t) → (n : ℕ) (b : List ℕ) → to (counting n) b (number_of e) ≡ put_in (counting n) b t
+count-refused t e q n b = go (nat_lt (length t) (2 ^ 64)) refl q
+  where
+    go : (x : Bool) → nat_lt (length t) (2 ^ 64) ≡ x → ◌≡◌ {A = Result ℕ Error} (Err e) (cond x (Ok (length t)) (Err CountTooLarge)) → to (counting n) b (number_of e) ≡ put_in (counting n) b t
+    go true h k = cc k
+    go false h k =
+        let z : e ≡ CountTooLarge = cc k in
+        let l : 2 ^ 64 ≤ length t = ltb-false (length t) (2 ^ 64) h in
+        rw (z, lt-ltb most (n + length t) (omega arith)) refl
+
+-- what the length of a character says of it: that it is one, or that it is none
+module _ (m : Form) (c n : ℕ) where
+  pub char_ok : (k : ℕ) → Ok k ≡ unless_no_char c n → (k ≡ n) × (0 ≡ fault_number (input_fault (char m c)))
+  unfolding input_fault
+  char_ok k e = go (is_scalar c) e
+    where
+      go : (x : Bool) → ◌≡◌ {A = Result ℕ Error} (Ok k) (cond x (Ok n) (Err NotAChar)) → (k ≡ n) × (0 ≡ fault_number (cond x None (Some NotAChar)))
+      go true q = (cc q, refl)
+      go false q = cc q
+
+  pub char_err : (e : Error) → Err e ≡ unless_no_char c n → number_of e ≡ fault_number (input_fault (char m c))
+  unfolding input_fault
+  char_err e q = go (is_scalar c) q
+    where
+      go : (x : Bool) → ◌≡◌ {A = Result ℕ Error} (Err e) (cond x (Ok n) (Err NotAChar)) → number_of e ≡ fault_number (cond x None (Some NotAChar))
+      go true q = cc q
+      go false q = let z : e ≡ NotAChar = cc q in rw z refl

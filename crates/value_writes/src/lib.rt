@@ -204,10 +204,10 @@ fn put_char(writer: &mut WriterBackend, buf: &mut [u8], form: Form, c: u32) -> R
     requires { beyond (mode_of writer.old) buf.old ≡ done }
     ensures { (f : Flags.FormattingFlags) → put_out result writer.new buf.new ≡ value_out writer.old buf.old f (char (form_of form) c) }
 {
-    char_fault(c)?;
     if writer.is_counting() {
         return writer.add_len(char_len(form, c)?);
     }
+    char_fault(c)?;
     let at = writer.number;
     match form {
         Form::Display => writer.advance(str_writer::put_char(buf, at, c)),

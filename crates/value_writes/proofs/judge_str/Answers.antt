@@ -1,4 +1,4 @@
-use mathlib.Core.Path.{ap, ◌∙◌}
+use mathlib.Core.Path.{◌∙◌}
 use Rattle.std.proofs.lemmas.Result.{err_from_is_err_and}
 use Rattle.str_writer.specs.Value.{str, input_fault}
 use Rattle.writer_backend.specs.Output.{mode_of}

@@ -1,4 +1,4 @@
-use mathlib.Core.Path.{ap, ◌∙◌}
+use mathlib.Core.Path.{◌∙◌}
 use Rattle.std.proofs.lemmas.Result.{err_from_is_err_and}
 use Rattle.str_writer.specs.Value.{ascii, text_of}
 use Rattle.str_writer.proofs.Values.{ascii_uncut}

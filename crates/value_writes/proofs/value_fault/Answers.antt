@@ -1,5 +1,5 @@
 use mathlib.Core.Logic.{inl, inr}
-use mathlib.Core.Path.{refl, ap, ◌∙◌}
+use mathlib.Core.Path.{refl}
 use Rattle.str_writer.specs.Value.{input_fault}
 use Rattle.value_writes.specs.Values.{form_of}
 use Rattle.value_writes.proofs.ValueLaws.{fault_met, integer_input}
