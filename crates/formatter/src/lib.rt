@@ -6,7 +6,8 @@ mod dispatch;
 mod entries;
 mod faults;
 mod head;
-mod stack;
+mod stub;
 
-pub use dispatch::{Op, call, judge, no_call};
-pub use head::{Head, HeadStep};
+pub use dispatch::Op;
+pub use entries::{Entry, Outer};
+pub use head::Head;
