@@ -7,14 +7,13 @@ use native.Mathlib.Omega.{arith}
 use lib.Dec.{eqb}
 use lib.ListN.{length}
 use borrow.Author.Tests.{lt-ltb}
-use Rattle.error.specs.Answer.{number_of}
 use Rattle.calls.specs.Model.{Mode, number_in, to, counting, writing, put_in, put, wrote}
 use Rattle.str_writer.specs.declared.piece.Written.{Written}
 use Rattle.str_writer.specs.Write.{outcome, placed}
 use Rattle.str_writer.specs.Write.{put as put_text}
 use Rattle.str_writer.proofs.Outcomes.{put-placed}
 use Rattle.writer_backend.specs.declared.pieces.WriterBackend.{WriterBackend}
-use Rattle.writer_backend.specs.Output.{as_mode, mode_of, is_counting, with_number, added, output_of}
+use Rattle.writer_backend.specs.Output.{as_mode, mode_of, is_counting, with_number, moved_by, added, output_of}
 
 as_counting : (t n : ℕ) → is_counting (as_mode t n) ≡ true → as_mode t n ≡ counting n
 as_counting zero n e = absurd (false≢true e)
@@ -56,7 +55,7 @@ module _ (w : WriterBackend) {r : Bool} (e : r ≡ is_counting (mode_of w)) wher
   adds q b t l = rw (counts q, l)
 
   -- the outcome of a single write, where a text is written
-  pub wrote_at : r ≡ false → (x : Written) (b : List ℕ) → to (with_number (mode_of w) x.at) b (number_of x.answer) ≡ wrote (outcome x b)
+  pub wrote_at : r ≡ false → (x : Written) (b : List ℕ) → moved_by (mode_of w) b x ≡ wrote (outcome x b)
   wrote_at q x b = rw (writes q)
 
   pub counts-at : r ≡ true → {m : Mode} (x : ℕ) → m ≡ with_number (mode_of w) x → m ≡ counting x
