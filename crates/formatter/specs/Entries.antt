@@ -1,7 +1,7 @@
 -- Which open entry of the model an entry of the stack is.
 use Rattle.calls.specs.Model.{Builder, Entry, builder, outer}
-use Rattle.formatter.specs.Stub.{held_number}
-use Rattle.formatter.specs.declared.stub.Builder as code_builder
+use Rattle.writer_backend.specs.Output.{held_number}
+use Rattle.writer_backend.specs.declared.record.Builder as code_builder
 use Rattle.formatter.specs.declared.entries.Entry as code
 use Rattle.formatter.specs.declared.entries.Entry.TheVariants.{Builder as BuilderEntry, Outer as OuterEntry}
 

@@ -1,43 +1,22 @@
 -- stub
-use Rattle.std.specs.Prelude.{Bool, true, false, cond, List, ℕ, zero, suc, ◌+◌, ◌%◌, ltb, Option, Some, None}
-use Rattle.error.specs.declared.Error.{Error}
-use Rattle.error.specs.declared.Error.TheVariants.{NotEnoughSpace, NotAscii, NotOnCharBoundary, NotUtf8, NotAChar, CountTooLarge, TooDeep, WrongCall, BadCursor}
-use Rattle.error.specs.Errors.{Answer, answer_number}
+use Rattle.std.specs.Prelude.{List, ℕ, zero, suc}
 use Rattle.formatting.specs.declared.flags.FormattingFlags.{FormattingFlags}
-use Rattle.str_writer.specs.Value.{Value, text_of}
-use Rattle.calls.specs.Call.{hold}
-use Rattle.calls.specs.Model.{Mode, counting, writing, Output, PieceOutcome, put, beyond}
-use Rattle.value_writes.specs.Values.{unless_fault, judged_in}
-use Rattle.formatter.specs.declared.stub.WriterBackend.{WriterBackend}
+use Rattle.str_writer.specs.Value.{Value, repeated, text_of, input_fault, cut_fault}
+use Rattle.calls.specs.Call.{fault_number, hold}
+use Rattle.calls.specs.Model.{Mode, Output, PieceOutcome, put, beyond, cut_in}
+use Rattle.writer_backend.specs.declared.pieces.WriterBackend.{WriterBackend}
+use Rattle.writer_backend.specs.Output.{mode_of, output_of}
+use Rattle.formatter.specs.declared.stub.PVariant.{PVariant}
 
-abbrev pub as_mode : ℕ → ℕ → Mode
-as_mode zero n = writing n
-as_mode (suc t) n = counting n
+unfoldable pub value_of : PVariant → List ℕ → Value
+value_of v s = repeated v.x 0
 
-abbrev pub mode_of : WriterBackend → Mode
-mode_of w = as_mode (w.mode % 2) w.number
+abbrev pub unless_fault : ℕ → Output → PieceOutcome → PieceOutcome
+unless_fault zero d p = p
+unless_fault (suc a) d p = record { answer = suc a; output = d }
 
-abbrev pub is_counting : Mode → Bool
-is_counting (counting n) = true
-is_counting (writing p) = false
-
-abbrev pub output_of : WriterBackend → List ℕ → Output
-output_of w b = record { mode = mode_of w; bytes = b }
-
-abbrev pub put_out : Answer → WriterBackend → List ℕ → PieceOutcome
-put_out a w b = record { answer = answer_number a; output = output_of w b }
-
-abbrev pub held_number : Option Error → ℕ
-held_number None = 0
-held_number (Some NotEnoughSpace) = 1
-held_number (Some NotAscii) = 6
-held_number (Some NotOnCharBoundary) = 6
-held_number (Some NotUtf8) = 6
-held_number (Some NotAChar) = 6
-held_number (Some CountTooLarge) = 6
-held_number (Some TooDeep) = 6
-held_number (Some WrongCall) = 6
-held_number (Some BadCursor) = 6
+abbrev pub judged_in : Mode → Value → ℕ
+judged_in m v = hold (fault_number (input_fault v)) (cut_in m (fault_number (cut_fault v)))
 
 unfoldable pub value_out : WriterBackend → List ℕ → FormattingFlags → Value → PieceOutcome
 value_out w b f v =

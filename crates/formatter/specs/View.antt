@@ -2,7 +2,7 @@
 use Rattle.std.specs.Prelude.{List, ℕ, min, map, reverse, take}
 use Rattle.error.specs.Errors.{Answer, answer_number}
 use Rattle.calls.specs.Model.{Entry, State, Out}
-use Rattle.formatter.specs.Stub.{output_of}
+use Rattle.writer_backend.specs.Output.{output_of}
 use Rattle.formatter.specs.Entries.{entry_of}
 use Rattle.formatter.specs.declared.entries.Entry as code
 use Rattle.formatter.specs.declared.head.Head.{Head}

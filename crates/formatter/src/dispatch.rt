@@ -5,7 +5,7 @@ ghost use Rattle.error.specs.Errors.{answer_number};
 ghost use Rattle.calls.specs.Call.{opens, place, value, finish, sub, endsub};
 ghost use Rattle.calls.specs.Model.{fault_of, step};
 ghost use Rattle.writer_backend.specs.Pieces.{place_of};
-ghost use Rattle.value_writes.specs.Values.{value_of};
+ghost use Rattle.formatter.specs.Stub.{value_of};
 ghost use Rattle.formatter.specs.Calls.{call_of, step_or};
 ghost use Rattle.formatter.specs.View.{view, view_out};
 ghost use Rattle.formatter.specs.declared.entries.Entry as declared;
@@ -15,12 +15,11 @@ use crate::faults::{
     is_ready, judge_end_sub, judge_finish, judge_open, judge_place, judge_sub, judge_value,
 };
 use crate::head::Head;
-use crate::stub::{Builder, place_fault, put_value};
+use crate::stub::{PVariant, put_value};
 use calls::Kind;
 use error::Error;
 use formatting::FormattingFlags;
-use value_writes::PVariant;
-use writer_backend::PlaceKind;
+use writer_backend::{Builder, PlaceKind, place_fault};
 
 // A call, whose text is lent beside it.
 #[derive(Clone, Copy)]
@@ -70,23 +69,15 @@ impl Head {
             ≡ step (view self.old stack.old buf.old) (place (place_of p name.now)) }
     {
         self.writer.judge(buf)?;
-        let depth = self.open_entries();
-        match stack[..depth].last_mut() {
-            Some(Entry::Builder(builder)) => {
-                place_fault(p, builder.kind, name)?;
-                self.writer.put_place(
-                    buf,
-                    builder,
-                    self.flags.is_alternate,
-                    self.margin,
-                    p,
-                    name,
-                );
-                Ok(())
-            }
-            Some(Entry::Outer(_)) => Err(Error::WrongCall),
-            None => Err(Error::WrongCall),
-        }
+        let Some(top) = self.open_entries().checked_sub(1) else {
+            return Err(Error::WrongCall);
+        };
+        let Entry::Builder(builder) = &mut stack[top] else {
+            return Err(Error::WrongCall);
+        };
+        place_fault(p, builder.kind, name)?;
+        self.writer.put_place(buf, builder, self.flags.is_alternate, self.margin, p, name);
+        Ok(())
     }
 
     // Closes the innermost builder: what it holds is answered, else its closing is written.
@@ -94,17 +85,19 @@ impl Head {
         ensures { view_out result self.new stack.now buf.new ≡ step (view self.old stack.now buf.old) finish }
     {
         self.writer.judge(buf)?;
-        let depth = self.open_entries();
-        let Some(Entry::Builder(builder)) = stack[..depth].last() else {
+        let Some(top) = self.open_entries().checked_sub(1) else {
             return Err(Error::WrongCall);
         };
-        self.depth = depth - 1;
+        let Entry::Builder(builder) = stack[top] else {
+            return Err(Error::WrongCall);
+        };
+        self.depth = top;
         if let Some(held) = builder.held() {
             return Err(held);
         }
         self.margin = self.margin.saturating_sub(4);
         self.writer
-            .close(buf, *builder, self.flags.is_alternate, self.margin)
+            .close(buf, builder, self.flags.is_alternate, self.margin)
     }
 
     // Opens a sub-formatter with flags of its own.
@@ -133,13 +126,15 @@ impl Head {
         ensures { view_out result self.new stack.now buf.now ≡ step (view self.old stack.now buf.now) endsub }
     {
         self.writer.judge(buf)?;
-        let depth = self.open_entries();
-        let Some(Entry::Outer(outer)) = stack[..depth].last() else {
+        let Some(top) = self.open_entries().checked_sub(1) else {
+            return Err(Error::WrongCall);
+        };
+        let Entry::Outer(outer) = stack[top] else {
             return Err(Error::WrongCall);
         };
         self.flags = outer.flags;
         self.margin = outer.margin;
-        self.depth = depth - 1;
+        self.depth = top;
         Ok(())
     }
 

@@ -1,7 +1,7 @@
 // An open entry of the stack, and what a call meets where some are open.
-use crate::stub::Builder;
 use calls::Kind;
 use formatting::FormattingFlags;
+use writer_backend::Builder;
 
 // A builder, or a sub-formatter.
 #[derive(Clone, Copy)]

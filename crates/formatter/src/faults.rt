@@ -1,20 +1,19 @@
 // What a call meets, judged by the entries that are open, the innermost last. Nothing is written.
 ghost use Rattle.std.specs.Prelude.{◌≡◌, ℕ, length};
 ghost use Rattle.error.specs.Errors.{answer_number};
-ghost use Rattle.formatting.specs.declared.flags.FormattingFlags as Flags;
+ghost use Rattle.formatting.specs.Flags.{default_flags};
 ghost use Rattle.calls.specs.Call.{opens, place, value, finish, sub, endsub, ready, call_fault, cut_number, hold};
 ghost use Rattle.calls.specs.Model.{inner, cut_in};
 ghost use Rattle.writer_backend.specs.Pieces.{place_of};
-ghost use Rattle.value_writes.specs.Values.{value_of};
-ghost use Rattle.formatter.specs.Stub.{mode_of};
+ghost use Rattle.formatter.specs.Stub.{value_of};
+ghost use Rattle.writer_backend.specs.Output.{mode_of};
 ghost use Rattle.formatter.specs.View.{stack_of};
 
 use crate::entries::Entry;
-use crate::stub::{WriterBackend, cut_fault, place_fault, value_fault};
+use crate::stub::{PVariant, cut_fault, value_fault};
 use calls::Kind;
 use error::Error;
-use value_writes::PVariant;
-use writer_backend::{PlaceKind, is_name};
+use writer_backend::{PlaceKind, WriterBackend, is_name, place_fault};
 
 // Whether the innermost is ready for a write or an opening: no builder without a field.
 pub(crate) fn is_ready(entries: &[Entry]) -> bool
@@ -45,7 +44,7 @@ pub(crate) fn judge_open(entries: &[Entry], margin: u16, k: Kind, name: &[u8]) -
 
 // A field or an entry: 8, then 4.
 pub(crate) fn judge_place(entries: &[Entry], p: PlaceKind, name: &[u8]) -> Result<(), Error>
-    ensures { (d m : ℕ) → answer_number result ≡ call_fault (inner (stack_of entries.now)) d m (place (place_of p name.now)) }
+    ensures { answer_number result ≡ call_fault (inner (stack_of entries.now)) 0 0 (place (place_of p name.now)) }
 {
     let Some(Entry::Builder(builder)) = entries.last() else {
         return Err(Error::WrongCall);
@@ -55,7 +54,7 @@ pub(crate) fn judge_place(entries: &[Entry], p: PlaceKind, name: &[u8]) -> Resul
 
 // A finish: 8.
 pub(crate) fn judge_finish(entries: &[Entry]) -> Result<(), Error>
-    ensures { (d m : ℕ) → answer_number result ≡ call_fault (inner (stack_of entries.now)) d m finish }
+    ensures { answer_number result ≡ call_fault (inner (stack_of entries.now)) 0 0 finish }
 {
     match entries.last() {
         Some(Entry::Builder(_)) => Ok(()),
@@ -66,7 +65,7 @@ pub(crate) fn judge_finish(entries: &[Entry]) -> Result<(), Error>
 
 // The opening of a sub-formatter: 8, then 7.
 pub(crate) fn judge_sub(entries: &[Entry]) -> Result<(), Error>
-    ensures { (m : ℕ) (f : Flags.FormattingFlags) → answer_number result ≡ call_fault (inner (stack_of entries.now)) (length entries.now) m (sub f) }
+    ensures { answer_number result ≡ call_fault (inner (stack_of entries.now)) (length entries.now) 0 (sub default_flags) }
 {
     if !is_ready(entries) {
         return Err(Error::WrongCall);
@@ -79,7 +78,7 @@ pub(crate) fn judge_sub(entries: &[Entry]) -> Result<(), Error>
 
 // The closing of a sub-formatter: 8.
 pub(crate) fn judge_end_sub(entries: &[Entry]) -> Result<(), Error>
-    ensures { (d m : ℕ) → answer_number result ≡ call_fault (inner (stack_of entries.now)) d m endsub }
+    ensures { answer_number result ≡ call_fault (inner (stack_of entries.now)) 0 0 endsub }
 {
     match entries.last() {
         Some(Entry::Outer(_)) => Ok(()),
@@ -95,8 +94,8 @@ pub(crate) fn judge_value(
     v: PVariant,
     s: &[u8],
 ) -> Result<(), Error>
-    ensures { (d m : ℕ) → answer_number result
-        ≡ hold (call_fault (inner (stack_of entries.now)) d m (value (value_of v s.now))) (cut_in (mode_of writer) (cut_number (value (value_of v s.now)))) }
+    ensures { answer_number result
+        ≡ hold (call_fault (inner (stack_of entries.now)) 0 0 (value (value_of v s.now))) (cut_in (mode_of writer) (cut_number (value (value_of v s.now)))) }
 {
     if !is_ready(entries) {
         return Err(Error::WrongCall);

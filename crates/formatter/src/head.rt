@@ -2,13 +2,13 @@
 // struct with them a run takes 5 to 12 % more.
 ghost use Rattle.std.specs.Prelude.{◌≡◌, List, ℕ, length};
 ghost use Rattle.calls.specs.Model.{start};
-ghost use Rattle.formatter.specs.Stub.{mode_of};
+ghost use Rattle.writer_backend.specs.Output.{mode_of};
 ghost use Rattle.formatter.specs.View.{depth_of, view};
 ghost use Rattle.formatter.specs.declared.entries.Entry.{Entry};
 
-use crate::stub::WriterBackend;
 use calls::Settings;
 use formatting::FormattingFlags;
+use writer_backend::WriterBackend;
 
 // Where the text goes, the flags in force, the margin, and how many entries are open.
 #[derive(Clone, Copy)]

@@ -1,22 +1,20 @@
-use Rattle.std.proofs.Common.{rules, ◌≡◌, List, ℕ, None, ◌+◌, ◌-◌, ◌*◌, ◌<◌, ◌≤◌, length, ◌/◌, ◌%◌, Bool, true, false, nat_eq, nat_lt, [], ◌∷◌, ◌++◌, slice_index_or, slice_set, bit_and, bit_or, Fits, w8, w32, w64, Bor, MutBor}
-use Rattle.error.specs.Errors.{answer_number}
-use Rattle.calls.specs.Call.{opens, place, value, finish, sub, endsub}
-use Rattle.calls.specs.Model.{fault_of, step}
-use Rattle.writer_backend.specs.Pieces.{place_of}
-use Rattle.value_writes.specs.Values.{value_of}
-use Rattle.formatter.specs.Calls.{call_of, step_or}
-use Rattle.formatter.specs.View.{view, view_out}
-use Rattle.formatter.specs.declared.entries.Entry as declared
+use Rattle.std.proofs.Common.{◌≡◌, ◌<◌, ◌+◌, length, arith, rules}
+use Rattle.formatter.specs.View.{depth_of}
+use Rattle.formatter.proofs.Laws.{stack_more, stack_top, stack_same}
+use Rattle.formatter.proofs.Steps.{place_done}
 use Rattle.formatter.proofs.head.Head.place.Goals as goal
 
--- src/dispatch.rt:76:17
-pub returns-in_err-place_fault-in-Some-Builder : goal.returns-in_err-place_fault-in-Some-Builder
-returns-in_err-place_fault-in-Some-Builder c = ?
+pub returns-in_err-place_fault : goal.returns-in_err-place_fault
+returns-in_err-place_fault c = let a = c.args in
+    let r : c.in-Some.top < length a.stack.now = omega (arith, c.told-stack, c.in-Some.ensures.0, c.in-Some.ensures.1) in
+    let d : depth_of a.self.now.depth ≡ c.in-Some.top + 1 = omega (arith, c.in-Some.ensures.0, c.in-Some.ensures.1) in
+    let f = c.in_err-place_fault.ensures c.in-Builder.builder.has_field 0 0 in
+    rw (stack_same a.stack.now c.in-Some.top _ r _ c.in-Builder.is, d, stack_top a.stack.now c.in-Some.top _ r _ c.in-Builder.is) (search rules)
 
--- src/dispatch.rt:62:5
-pub returns-in_ok-place_fault-in-Some-Builder : goal.returns-in_ok-place_fault-in-Some-Builder
-returns-in_ok-place_fault-in-Some-Builder c = rw c.in-Some-Builder.is (let e = c.in-Some-Builder.ensures.item in let g = c.in-Some-Builder.builder-is in let h = c.in-Some-Builder.field-0-is in ?)
-
--- src/dispatch.rt:62:5
-pub returns-in-Some-Outer : goal.returns-in-Some-Outer
-returns-in-Some-Outer c = rw (c.in-Some-Outer.is, c.in-Some-Outer.field-0-is) ?
+pub returns : goal.returns
+returns c = let a = c.args in
+    let top = c.in-Some.top in
+    let r : top < length a.stack.now = omega (arith, c.told-stack, c.in-Some.ensures.0, c.in-Some.ensures.1) in
+    let d : depth_of a.self.now.depth ≡ top + 1 = omega (arith, c.in-Some.ensures.0, c.in-Some.ensures.1) in
+    rw (d, stack_more a.stack.now top _ r, stack_top a.stack.now top _ r _ c.in-Builder.is, c.put_place.ensures.builder_after.0, c.put_place.ensures.builder_after.1)
+    (place_done _ _ _ c.in_ok-judge.ensures _ _ _ _ _ (c.in_ok-place_fault.ensures c.in-Builder.builder.has_field 0 0) c.put_place.ensures.pieces)
