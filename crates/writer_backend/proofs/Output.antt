@@ -1,13 +1,13 @@
 -- One piece: its length added to a total, or its text written at the cursor.
 use mathlib.Core.Bool.{Bool, true, false, false≢true}
-use mathlib.Core.Path.{◌≡◌, refl, sym, ◌∙◌}
+use mathlib.Core.Path.{◌≡◌, refl, sym, ap, ◌∙◌}
 use mathlib.Core.List.{List}
 use Prim.Native.Nat.{ℕ, zero, suc, ◌+◌, ◌%◌, ◌≤◌, ◌<◌}
 use native.Mathlib.Omega.{arith}
 use lib.Dec.{eqb}
 use lib.ListN.{length}
 use borrow.Author.Tests.{lt-ltb}
-use Rattle.calls.specs.Model.{Mode, number_in, to, counting, writing, put_in, put, wrote}
+use Rattle.calls.specs.Model.{number_in, to, counting, writing, put_in, put, wrote}
 use Rattle.str_writer.specs.declared.piece.Written.{Written}
 use Rattle.str_writer.specs.Write.{outcome, placed}
 use Rattle.str_writer.specs.Write.{put as put_text}
@@ -54,13 +54,6 @@ module _ (w : WriterBackend) {r : Bool} (e : r ≡ is_counting (mode_of w)) wher
   pub adds : r ≡ true → (b t : List ℕ) {n : ℕ} → n ≡ length t → added (mode_of w) b n ≡ put_in (mode_of w) b t
   adds q b t l = rw (counts q, l)
 
-  -- the outcome of a single write, where a text is written
-  pub wrote_at : r ≡ false → (x : Written) (b : List ℕ) → moved_by (mode_of w) b x ≡ wrote (outcome x b)
-  wrote_at q x b = rw (writes q)
-
-  pub counts-at : r ≡ true → {m : Mode} (x : ℕ) → m ≡ with_number (mode_of w) x → m ≡ counting x
-  counts-at t x q = q ∙ rw (counts t)
-
 module _ (w : WriterBackend) (b : List ℕ) (e : mode_of w ≡ writing w.number) (s : List ℕ) where
   -- a cursor past the bytes has no room
   pub put_past : length b < w.number → to (mode_of w) b 1 ≡ put (output_of w b) s
@@ -69,3 +62,10 @@ module _ (w : WriterBackend) (b : List ℕ) (e : mode_of w ≡ writing w.number)
 
   pub put-writes : w.number ≤ length b → wrote (put_text b w.number s) ≡ put (output_of w b) s
   put-writes h = rw (e, ← put-placed b w.number s h)
+
+-- a single write at a cursor within the bytes, as a piece
+pub written : (w : WriterBackend) {r : Bool} → r ≡ is_counting (mode_of w) → r ≡ false → (b : List ℕ) {b' : List ℕ} (t : List ℕ) (x : Written) → w.number ≤ length b → outcome x b' ≡ put_text b w.number t → moved_by (mode_of w) b' x ≡ put (output_of w b) t
+written w e q b {b'} t x h p =
+    let m = writes w e q in
+    let same : moved_by (mode_of w) b' x ≡ wrote (outcome x b') = rw m in
+    same ∙ ap wrote p ∙ put-writes w b m t h

@@ -12,12 +12,12 @@ use Rattle.std.proofs.Common.{Option, Ok, Err}
 use Rattle.std.specs.Result.{is_ok}
 use Rattle.calls.specs.declared.Kind.{Kind}
 use Rattle.calls.specs.declared.Kind.TheVariants.{Struct, Tuple, List as ListKind, Set}
-use Rattle.calls.specs.Call.{Place, of_kind, empty_close, plain_close, comma_line, bracket, spaces, separator, close_pieces, place_pieces, label_pieces, hold}
+use Rattle.calls.specs.Call.{Place, of_kind, separator, place_pieces, label_pieces, hold}
 use Rattle.error.specs.declared.Error.{Error}
 use Rattle.error.specs.declared.Error.TheVariants.{NotEnoughSpace, NotAscii, NotOnCharBoundary, NotUtf8, NotAChar, CountTooLarge, TooDeep, WrongCall, BadCursor}
 use Rattle.error.specs.Errors.{Answer, number_of, answer_number}
 use Rattle.str_writer.specs.Write.{Outcome, placed}
-use Rattle.calls.specs.Model.{Mode, Output, PieceOutcome, counting, writing, to, most, wrote, put_in, put, go_on, tries, stops}
+use Rattle.calls.specs.Model.{Mode, Output, PieceOutcome, counting, writing, to, most, wrote, put_in, put, tries}
 use Rattle.writer_backend.specs.declared.record.PlaceKind.{PlaceKind}
 use Rattle.writer_backend.specs.declared.record.PlaceKind.TheVariants.{Field, Item}
 use Rattle.writer_backend.specs.declared.record.PlaceKind.TheVariants as place-kind

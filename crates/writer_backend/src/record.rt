@@ -67,7 +67,11 @@ impl WriterBackend {
             ≡ try_all (held_out builder.old.held self.old buf.old) (place_pieces builder.old.kind builder.old.has_field is_alternate margin (place_of place name.now)) }
         ensures builder_after { (builder.new.kind ≡ builder.old.kind) × (builder.new.has_field ≡ true) }
     {
-        let Builder { kind, has_field, .. } = *builder;
+        let Builder {
+            kind,
+            has_field,
+            ..
+        } = *builder;
         builder.has_field = true;
         if self.is_counting() {
             let len = place_len(kind, has_field, is_alternate, margin, place, name);
@@ -119,7 +123,11 @@ impl WriterBackend {
     ) -> Result<(), Error>
         ensures { put_out result self.new buf.new ≡ stops (output_of self.old buf.old) (close_pieces builder.kind builder.has_field is_alternate margin) }
     {
-        let Builder { kind, has_field, .. } = builder;
+        let Builder {
+            kind,
+            has_field,
+            ..
+        } = builder;
         if !has_field {
             return self.put(buf, empty_close(kind));
         }
@@ -179,11 +187,7 @@ pub fn place_fault(p: PlaceKind, k: Kind, name: &[u8]) -> Result<(), Error>
 fn margin_len(is_alternate: bool, margin: u16) -> usize
     ensures { (result ≡ length_of (margin_pieces is_alternate margin)) × (result ≤ margin) }
 {
-    if is_alternate {
-        usize::from(margin)
-    } else {
-        0
-    }
+    if is_alternate { usize::from(margin) } else { 0 }
 }
 
 fn label_len(p: PlaceKind, name: &[u8]) -> usize

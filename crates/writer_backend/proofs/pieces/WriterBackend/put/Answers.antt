@@ -1,6 +1,5 @@
-use mathlib.Core.Path.{refl, ap, ◌∙◌}
-use Rattle.calls.specs.Model.{wrote}
-use Rattle.writer_backend.proofs.Output.{adds, wrote_at, writes, put_past, put-writes}
+use mathlib.Core.Path.{refl, ◌∙◌}
+use Rattle.writer_backend.proofs.Output.{adds, writes, put_past, written}
 use Rattle.writer_backend.proofs.pieces.WriterBackend.put.Goals as goal
 
 pub returns-then-is_counting : goal.returns-then-is_counting
@@ -14,6 +13,4 @@ returns-then-buf-self c = let a = c.args in
 pub returns : goal.returns
 returns c = let a = c.args in
     c.advance.ensures _
-    ∙ wrote_at a.self.now c.is_counting.ensures c.if-is_counting.false c.put.result _
-    ∙ ap wrote c.put.ensures
-    ∙ put-writes a.self.now a.buf.now (writes a.self.now c.is_counting.ensures c.if-is_counting.false) a.s.now c.if-buf-self.false
+    ∙ written a.self.now c.is_counting.ensures c.if-is_counting.false a.buf.now a.s.now c.put.result c.if-buf-self.false c.put.ensures

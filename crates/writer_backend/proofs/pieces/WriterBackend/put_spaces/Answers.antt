@@ -1,10 +1,9 @@
-use mathlib.Core.Path.{sym, ap, ◌∙◌}
+use mathlib.Core.Path.{sym, ◌∙◌}
 use lib.ListN.{length-replicate}
 use Rattle.formatting.specs.Flags.{default_flags}
 use Rattle.calls.specs.Call.{spaces}
-use Rattle.calls.specs.Model.{wrote}
 use Rattle.str_writer.proofs.Values.{repeated-put}
-use Rattle.writer_backend.proofs.Output.{adds, wrote_at, writes, put_past, put-writes}
+use Rattle.writer_backend.proofs.Output.{adds, writes, put_past, written}
 use Rattle.writer_backend.proofs.pieces.WriterBackend.put_spaces.Goals as goal
 
 pub returns-then-is_counting : goal.returns-then-is_counting
@@ -17,8 +16,6 @@ returns-then-buf-self c = let a = c.args in
 
 pub returns : goal.returns
 returns c = let a = c.args in
-    let p = sym (repeated-put default_flags a.buf.now a.self.now.number c.if-buf-self.false 32 a.k) in
     c.advance.ensures _
-    ∙ wrote_at a.self.now c.is_counting.ensures c.if-is_counting.false c.write_ascii_repeated.result _
-    ∙ ap wrote (c.write_ascii_repeated.ensures ∙ p)
-    ∙ put-writes a.self.now a.buf.now (writes a.self.now c.is_counting.ensures c.if-is_counting.false) (spaces a.k) c.if-buf-self.false
+    ∙ written a.self.now c.is_counting.ensures c.if-is_counting.false a.buf.now (spaces a.k) c.write_ascii_repeated.result c.if-buf-self.false
+    (c.write_ascii_repeated.ensures ∙ sym (repeated-put default_flags a.buf.now a.self.now.number c.if-buf-self.false 32 a.k))
