@@ -12,7 +12,7 @@ use Rattle.writer_backend.specs.declared.pieces.WriterBackend.{WriterBackend}
 use Rattle.writer_backend.specs.Output.{mode_of, output_of, put_out, held_of, held_number}
 use Rattle.writer_backend.specs.Pieces.{try_all}
 use Rattle.writer_backend.proofs.Sequence.{hold-zero, put_held, tried}
-use Rattle.formatter.specs.Stub.{unless_fault, value_out}
+use Rattle.value_writes.specs.Values.{unless_fault, value_out}
 
 -- what cuts nothing meets what it is judged by
 uncut : (m : Mode) → cut_in m 0 ≡ 0

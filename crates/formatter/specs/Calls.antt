@@ -5,7 +5,7 @@ use Rattle.error.specs.Errors.{number_of}
 use Rattle.calls.specs.Call.{Call, opens, place, value, sub, endsub, finish, hold}
 use Rattle.calls.specs.Model.{State, Out, beyond, fault_of, step}
 use Rattle.writer_backend.specs.Pieces.{place_of}
-use Rattle.formatter.specs.Stub.{value_of}
+use Rattle.value_writes.specs.Values.{value_of}
 use Rattle.formatter.specs.declared.dispatch.Op.{Op}
 use Rattle.formatter.specs.declared.dispatch.Op.TheVariants.{Open, Place, Finish, Sub, EndSub, Value}
 

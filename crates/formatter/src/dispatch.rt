@@ -5,7 +5,7 @@ ghost use Rattle.error.specs.Errors.{answer_number};
 ghost use Rattle.calls.specs.Call.{opens, place, value, finish, sub, endsub};
 ghost use Rattle.calls.specs.Model.{fault_of, step};
 ghost use Rattle.writer_backend.specs.Pieces.{place_of};
-ghost use Rattle.formatter.specs.Stub.{value_of};
+ghost use Rattle.value_writes.specs.Values.{value_of};
 ghost use Rattle.formatter.specs.Calls.{call_of, step_or};
 ghost use Rattle.formatter.specs.View.{view, view_out};
 ghost use Rattle.formatter.specs.declared.entries.Entry as declared;
@@ -15,10 +15,10 @@ use crate::faults::{
     is_ready, judge_end_sub, judge_finish, judge_open, judge_place, judge_sub, judge_value,
 };
 use crate::head::Head;
-use crate::stub::{PVariant, put_value};
 use calls::Kind;
 use error::Error;
 use formatting::FormattingFlags;
+use value_writes::{PVariant, put_value};
 use writer_backend::{Builder, PlaceKind, place_fault};
 
 // A call, whose text is lent beside it.

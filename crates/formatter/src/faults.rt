@@ -5,14 +5,14 @@ ghost use Rattle.formatting.specs.Flags.{default_flags};
 ghost use Rattle.calls.specs.Call.{opens, place, value, finish, sub, endsub, ready, call_fault, cut_number, hold};
 ghost use Rattle.calls.specs.Model.{inner, cut_in};
 ghost use Rattle.writer_backend.specs.Pieces.{place_of};
-ghost use Rattle.formatter.specs.Stub.{value_of};
+ghost use Rattle.value_writes.specs.Values.{value_of};
 ghost use Rattle.writer_backend.specs.Output.{mode_of};
 ghost use Rattle.formatter.specs.View.{stack_of};
 
 use crate::entries::Entry;
-use crate::stub::{PVariant, cut_fault, value_fault};
 use calls::Kind;
 use error::Error;
+use value_writes::{PVariant, cut_fault, value_fault};
 use writer_backend::{PlaceKind, WriterBackend, is_name, place_fault};
 
 // Whether the innermost is ready for a write or an opening: no builder without a field.

@@ -6,7 +6,6 @@ mod dispatch;
 mod entries;
 mod faults;
 mod head;
-mod stub;
 
 pub use dispatch::Op;
 pub use entries::{Entry, Outer};
