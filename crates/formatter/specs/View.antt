@@ -1,11 +1,15 @@
 -- The state of the model that a formatter and the lent bytes are. Every formatter is one (docs/DECISIONS.md, 'The formatter').
-use Rattle.std.specs.Prelude.{List, ℕ, min, map, reverse, take}
+use Rattle.std.specs.Prelude.{cond, List, ℕ, min, ltb, length, map, reverse, take, Result, Ok, Err}
+use Rattle.error.specs.declared.Error.{Error}
+use Rattle.error.specs.declared.Error.TheVariants.{BadCursor}
 use Rattle.error.specs.Errors.{Answer, answer_number}
-use Rattle.calls.specs.Model.{Entry, State, Out}
+use Rattle.calls.specs.declared.Settings.{Settings}
+use Rattle.calls.specs.Model.{Entry, State, Out, start, writing}
 use Rattle.writer_backend.specs.Output.{output_of}
 use Rattle.formatter.specs.Entries.{entry_of}
 use Rattle.formatter.specs.declared.entries.Entry as code
 use Rattle.formatter.specs.declared.head.Head.{Head}
+use Rattle.formatter.specs.declared.formatter.Formatter.{Formatter}
 
 -- Document 01, 'Rust forms that cannot come along': a stack of open entries, of which the innermost is the last, and the first in the model
 abbrev pub stack_of : List code.Entry → List Entry
@@ -26,3 +30,20 @@ view h s b = record { output = output_of h.writer b; flags = h.flags; margin = h
 -- Document 01, 'A nested record': what a call answers, with the formatter and the bytes as they then are
 abbrev pub view_out : Answer → Head → List code.Entry → List ℕ → Out
 view_out a h s b = record { answer = answer_number a; state = view h s b }
+
+-- Document 01, 'Rust forms that cannot come along': the stack of open entries in the formatter
+abbrev pub view_f : Formatter → List ℕ → State
+view_f f b = view f.head f.stack b
+
+-- Document 01, 'A nested record': what a call on a formatter answers, and the formatter then
+abbrev pub view_f_out : Answer → Formatter → List ℕ → Out
+view_f_out a f b = view_out a f.head f.stack b
+
+-- Document 01, 'A nested record': the formatter that a run begins with, or what it meets
+abbrev pub view_new : Result Formatter Error → List ℕ → Result State Error
+view_new (Ok f) b = Ok (view_f f b)
+view_new (Err e) b = Err e
+
+-- Document 01, 'A nested record': a run starts fresh, cursor p over bytes of any content; 9 where the cursor exceeds the buffer's length
+abbrev pub begun : List ℕ → ℕ → Settings → Result State Error
+begun b p S = cond (ltb (length b) p) (Err BadCursor) (Ok (start (writing p) b S))

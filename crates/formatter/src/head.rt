@@ -34,7 +34,8 @@ impl Head {
 
     // How many entries are open: 64 where the depth says more.
     pub fn open_entries(&self) -> usize
-        ensures { result ≡ depth_of self.now.depth }
+        ensures by_index { (s : List Entry) (b : List ℕ) → length s ≡ 64 → result ≡ length (view self.now s b).stack }
+        ensures value { result ≡ depth_of self.now.depth }
     {
         self.depth.min(64)
     }

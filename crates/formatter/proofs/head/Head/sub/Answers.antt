@@ -10,5 +10,5 @@ returns c = let a = c.args in
     let m : d < 64 = search rules in
     let r : d < length a.stack.now = omega (arith, m, c.told-stack) in
     let n : depth_of (d + 1) ≡ d + 1 = omega (arith, c.told-stack) in
-    rw (n, ← c.open_entries-depth.ensures, stack_more a.stack.now d _ r)
+    rw (n, ← c.open_entries-depth.ensures.value, stack_more a.stack.now d _ r)
     (sub_done _ _ _ c.in_ok-judge.ensures _ a.flags (rw length_stack c.in_ok-judge_sub.ensures))
