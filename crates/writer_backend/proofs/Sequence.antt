@@ -87,7 +87,7 @@ separator-length Set false false = refl
 abbrev wrote_number : Outcome → ℕ
 wrote_number o = (wrote o).answer
 
-put_held : (d : Output) (t : List ℕ) → held_of (put d t).answer ≡ (put d t).answer
+pub put_held : (d : Output) (t : List ℕ) → held_of (put d t).answer ≡ (put d t).answer
 unfolding placed
 put_held d t = by_mode d.mode
   where
