@@ -1,6 +1,6 @@
 -- Document 01, 'A nested record, and its count': the counter, one call that it counts, and a length that is added to it.
 use Rattle.std.specs.Prelude.{cond, ◌≡◌, List, [], ℕ, ◌+◌, ltb, eqb, Option}
-use Rattle.error.specs.Errors.{Answer, done, number_of, answer_number}
+use Rattle.error.specs.Answer.{Answer, done, number_of, answer_number}
 use Rattle.error.specs.declared.Error.TheVariants.{CountTooLarge}
 use Rattle.calls.specs.Model.{counting, State, Out, most}
 use Rattle.formatter.specs.declared.head.Head.{Head}

@@ -3,7 +3,7 @@
 #![tactic(auto)]
 
 ghost use Rattle.std.specs.Prelude.{◌≡◌, [], eqb};
-ghost use Rattle.error.specs.Errors.{answer_number};
+ghost use Rattle.error.specs.Answer.{answer_number};
 ghost use Rattle.calls.specs.Model.{counting, step};
 ghost use Rattle.formatter.specs.Calls.{call_of};
 ghost use Rattle.encoded_call.specs.Encoding.{decode};

@@ -16,7 +16,7 @@ use Rattle.encoded_call.specs.Encoding.{call_at, decode}
 use Rattle.std.specs.Prelude.{Option, Some, None, Ok, Err}
 use Rattle.error.specs.declared.Error.{Error}
 use Rattle.error.specs.declared.Error.TheVariants.{NotEnoughSpace, NotAscii, NotOnCharBoundary, NotUtf8, NotAChar, CountTooLarge, TooDeep, WrongCall, BadCursor}
-use Rattle.error.specs.Errors.{Answer, number_of, answer_number}
+use Rattle.error.specs.Answer.{Answer, number_of, answer_number}
 use Rattle.run.specs.declared.Refusal.{Refusal}
 use Rattle.run.specs.Played.{run_or, refused_at, first_number, place_in, Played, played, stored}
 use Rattle.run.specs.Noting.{noted}

@@ -1,6 +1,6 @@
 -- What is noted of the first refusal while a run is played; only functions inside this crate speak of it.
 use Rattle.std.specs.Prelude.{ℕ, Option, Some, None, Ok, Err}
-use Rattle.error.specs.Errors.{Answer}
+use Rattle.error.specs.Answer.{Answer}
 use Rattle.run.specs.declared.Refusal.{Refusal}
 
 -- docs/DECISIONS.md, 'The formatter': what a run was refused with first, once call k has the answer x

@@ -1,7 +1,7 @@
 -- What a list of calls gives when it is played whole, and demand 3 of a run as data.
 use Rattle.std.specs.Prelude.{◌≡◌, ◌↔◌, List, [], ◌∷◌, ◌++◌, map, ℕ, zero, suc, ◌+◌, ◌≤◌, ◌<◌, length, take, drop, Option, Some, None}
 use Rattle.error.specs.declared.Error.TheVariants.{NotEnoughSpace}
-use Rattle.error.specs.Errors.{done, number_of}
+use Rattle.error.specs.Answer.{done, number_of}
 use Rattle.calls.specs.declared.Settings.{Settings}
 use Rattle.calls.specs.Call.{Call, hold}
 use Rattle.calls.specs.Model.{Mode, counting, writing, Output, State, Run, start, beyond, most}

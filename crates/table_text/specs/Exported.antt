@@ -1,7 +1,7 @@
 -- A run whose flags are a number, as a sender passes them (docs/DECISIONS.md, 'For senders, and the comparison').
 use Rattle.std.specs.Prelude.{cond, List, [], ℕ, Option}
 use Rattle.error.specs.declared.Error.TheVariants.{WrongCall}
-use Rattle.error.specs.Errors.{done, number_of}
+use Rattle.error.specs.Answer.{done, number_of}
 use Rattle.formatting.specs.FlagsAsNumber.{are_flags, flags_of}
 use Rattle.calls.specs.declared.Settings.{Settings}
 use Rattle.calls.specs.Call.{Call, hold}

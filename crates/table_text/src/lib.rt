@@ -6,7 +6,7 @@
 #![tactic(auto)]
 
 ghost use Rattle.std.specs.Prelude.{◌≡◌, [], ◌<◌, Some};
-ghost use Rattle.error.specs.Errors.{number_of};
+ghost use Rattle.error.specs.Answer.{number_of};
 ghost use Rattle.agreement.specs.Untouched.{OnlyBetween};
 ghost use Rattle.calls.specs.Model.{counting, writing};
 ghost use Rattle.encoded_call.specs.Encoding.{decode};
