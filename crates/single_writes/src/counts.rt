@@ -7,7 +7,7 @@ ghost use Rattle.single_writes.specs.Single.{entire, totals, counts, counts_by};
 
 use char_encoding::{char_debug_len, char_display_len};
 use error::{Error, answer_number};
-use formatting::{FormattingFlags, NotFlags};
+use formatting::FormattingFlags;
 use pwrapper::{
     PrimitiveInteger, compute_debug_len, compute_display_len, compute_utf8_debug_len_in_range,
 };
@@ -35,7 +35,7 @@ fn count_debug<I: PrimitiveInteger>(total: &mut usize, x: I, flags: u64) -> u8
 {
     match FormattingFlags::try_from(flags) {
         Ok(flags) => answer_number(add(total, compute_debug_len(x, flags))),
-        Err(NotFlags) => u8::from(Error::WrongCall),
+        Err(_) => u8::from(Error::WrongCall),
     }
 }
 

@@ -16,7 +16,7 @@ ghost use Rattle.single_writes.specs.ByFlags.{wrong_flags};
 ghost use Rattle.single_writes.specs.Single.{entire, between, gives, writes, writes_by, keeps};
 
 use error::Error;
-use formatting::{FormattingFlags, NotFlags};
+use formatting::FormattingFlags;
 use integer_writes::{write_debug, write_display};
 use pwrapper::PrimitiveInteger;
 use quoted_writes::{
@@ -196,7 +196,7 @@ fn put_debug<I: PrimitiveInteger>(buf: &mut [u8], cursor: &mut usize, x: I, flag
 {
     let w = match FormattingFlags::try_from(flags) {
         Ok(flags) => write_debug(buf, *cursor, x, flags),
-        Err(NotFlags) => no_flags(buf.len(), *cursor),
+        Err(_) => no_flags(buf.len(), *cursor),
     };
     answered(cursor, w)
 }
