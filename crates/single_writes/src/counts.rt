@@ -167,12 +167,26 @@ pub extern "C" fn single_count_i64_debug(total: &mut usize, x: i64, flags: u64) 
     count_debug(total, x, flags)
 }
 
+// Counts a character by what it meets.
+fn count_char(total: &mut usize, c: u32) -> Result<(), Error>
+    ensures { totals (answer_number result) total.new ≡ counts total.old (char display c) }
+{
+    add(total, char_display_len(c)?)
+}
+
 // Counts a character.
 #[unsafe(no_mangle)]
 pub extern "C" fn single_count_char(total: &mut usize, c: u32) -> u8
     ensures { totals result total.new ≡ counts total.old (char display c) }
 {
-    answer_number(char_display_len(c).and_then(|len| add(total, len)))
+    answer_number(count_char(total, c))
+}
+
+// Counts a character, quoted, by what it meets.
+fn count_char_debug(total: &mut usize, c: u32) -> Result<(), Error>
+    ensures { totals (answer_number result) total.new ≡ counts total.old (char debug c) }
+{
+    add(total, char_debug_len(c)?)
 }
 
 // Counts a character, quoted.
@@ -180,7 +194,15 @@ pub extern "C" fn single_count_char(total: &mut usize, c: u32) -> u8
 pub extern "C" fn single_count_char_debug(total: &mut usize, c: u32) -> u8
     ensures { totals result total.new ≡ counts total.old (char debug c) }
 {
-    answer_number(char_debug_len(c).and_then(|len| add(total, len)))
+    answer_number(count_char_debug(total, c))
+}
+
+// Counts a string by what it meets.
+fn count_str(total: &mut usize, s: &[u8]) -> Result<(), Error>
+    ensures { totals (answer_number result) total.new ≡ counts total.old (entire (str display) s.now) }
+{
+    str_fault(s)?;
+    add(total, s.len())
 }
 
 // Counts a string.
@@ -188,7 +210,16 @@ pub extern "C" fn single_count_char_debug(total: &mut usize, c: u32) -> u8
 pub extern "C" fn single_count_str(total: &mut usize, s: &[u8]) -> u8
     ensures { totals result total.new ≡ counts total.old (entire (str display) s.now) }
 {
-    answer_number(str_fault(s).and_then(|()| add(total, s.len())))
+    answer_number(count_str(total, s))
+}
+
+// Counts a string, quoted, by what it meets: as the whole of its range, as a run does.
+fn count_str_debug(total: &mut usize, s: &[u8]) -> Result<(), Error>
+    ensures { totals (answer_number result) total.new ≡ counts total.old (entire (str debug) s.now) }
+{
+    str_fault(s)?;
+    let end = s.len();
+    add(total, compute_utf8_debug_len_in_range(s, Range { start: 0, end })?)
 }
 
 // Counts a string, quoted.
@@ -196,14 +227,5 @@ pub extern "C" fn single_count_str(total: &mut usize, s: &[u8]) -> u8
 pub extern "C" fn single_count_str_debug(total: &mut usize, s: &[u8]) -> u8
     ensures { totals result total.new ≡ counts total.old (entire (str debug) s.now) }
 {
-    answer_number(count_quoted(total, s))
-}
-
-// The same by what it meets: counted as the whole of its range, as a run does.
-fn count_quoted(total: &mut usize, s: &[u8]) -> Result<(), Error>
-    ensures { totals (answer_number result) total.new ≡ counts total.old (entire (str debug) s.now) }
-{
-    str_fault(s)?;
-    let end = s.len();
-    add(total, compute_utf8_debug_len_in_range(s, Range { start: 0, end })?)
+    answer_number(count_str_debug(total, s))
 }

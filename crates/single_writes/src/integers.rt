@@ -105,7 +105,8 @@ pub extern "C" fn single_integer_binary(
     };
     let laid = i.to_start_array_binary(flags);
     *start = laid.start;
-    *array = laid.array;
+    let digits = laid.array;
+    *array = digits;
     0
 }
 
@@ -132,7 +133,8 @@ pub extern "C" fn single_integer_hexadecimal(
     };
     let laid = i.to_start_array_hexadecimal(flags);
     *start = laid.start;
-    *array = laid.array;
+    let digits = laid.array;
+    *array = digits;
     0
 }
 

@@ -194,11 +194,10 @@ fn put_debug<I: PrimitiveInteger>(buf: &mut [u8], cursor: &mut usize, x: I, flag
     ensures { gives result cursor.new buf.new
         ≡ writes_by flags buf.old cursor.old (integer debug I.BITS (I.value x)) }
 {
-    let w = match FormattingFlags::try_from(flags) {
-        Ok(flags) => write_debug(buf, *cursor, x, flags),
-        Err(_) => no_flags(buf.len(), *cursor),
-    };
-    answered(cursor, w)
+    match FormattingFlags::try_from(flags) {
+        Ok(flags) => answered(cursor, write_debug(buf, *cursor, x, flags)),
+        Err(_) => answered(cursor, no_flags(buf.len(), *cursor)),
+    }
 }
 
 // What flags that are no number below 12 are refused with: 9 where the cursor is past a buffer of len bytes, else 8.
