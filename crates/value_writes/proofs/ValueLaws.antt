@@ -1,111 +1,103 @@
 -- A value judged, then emitted: the fault that it meets, or its text placed or counted; and the parts of its length.
 use mathlib.Core.Bool.{Bool, true, false, cond}
-use mathlib.Core.Option.{none, some}
-use mathlib.Core.Path.{◌≡◌, refl, sym, ap, ◌∙◌}
+use Rattle.std.specs.Prelude.{Option, Some, None, Result, Ok, Err, nat_lt}
+use mathlib.Core.Path.{◌≡◌, refl, sym}
 use mathlib.Core.List.{List, [], ◌∷◌, ◌++◌}
-use Prim.Native.Nat.{ℕ, zero, suc, ◌+◌, ◌-◌}
+use Prim.Native.Nat.{ℕ, ◌+◌, ◌-◌, ◌≤◌, ◌^◌}
 use native.Mathlib.Omega.{arith}
 use lib.Dec.{ltb}
 use lib.IntN.{ℤ, pos}
 use lib.ListN.{length}
 use lib.Seq.{length-slice}
-use borrow.Author.Tests.{lt-ltb}
-use Rattle.error.specs.declared.Answer.{Answer}
-use Rattle.error.specs.declared.Answer.TheVariants.{Done, NotEnoughSpace, NotAscii, NotOnCharBoundary, NotUtf8, NotAChar, CountTooLarge, TooDeep, WrongCall, BadCursor}
-use Rattle.error.specs.Answer.{number_of, answer_of, is_done}
+use borrow.Author.Tests.{lt-ltb, ltb-false}
+use Rattle.error.specs.declared.Error.{Error}
+use Rattle.error.specs.declared.Error.TheVariants.{NotAChar, CountTooLarge, BadCursor}
+use Rattle.error.specs.Answer.{Answer, number_of, fault_number, answer_of, answer_number}
 use Rattle.formatting.specs.declared.flags.FormattingFlags.{FormattingFlags}
 use Rattle.formatting.specs.declared.flags.NumberFormatting.{NumberFormatting}
 use Rattle.formatting.specs.declared.flags.NumberFormatting.TheVariants.{Decimal, Hexadecimal, Binary}
-use Rattle.formatting.specs.Escape.{quoted}
+use Rattle.utf8.specs.Utf8.{is_scalar}
+use Rattle.char_encoding.specs.Char.{unless_no_char}
 use Rattle.utils.specs.declared.Range.{Range}
 use Rattle.utils.specs.Text.{saturated, part}
-use Rattle.pwrapper.specs.declared.quoted.DebugLen.{DebugLen}
 use Rattle.pwrapper.specs.Number.{decimal, display_text, twos_complement, debug_in, debug_parts}
 use Rattle.pwrapper.specs.QuotedCount.{count_of}
-use Rattle.str_writer.specs.Value.{Form, display, debug, Value, integer, text_of, input_fault, cut_fault}
-use Rattle.str_writer.specs.Write.{Outcome, placed, unless}
+use Rattle.str_writer.specs.Value.{Form, display, debug, Value, integer, char, text_of, input_fault, cut_fault}
+use Rattle.str_writer.specs.Write.{written as written_at, outcome}
 use Rattle.str_writer.specs.Write.{put as put_text}
 use Rattle.pwrapper.proofs.Ranges.{clamped_end}
-use Rattle.calls.specs.Call.{fault_number}
-use Rattle.calls.specs.Model.{Mode, counting, writing, PieceOutcome, to, most, put_in, put, wrote, beyond}
+use Rattle.calls.specs.Call.{hold}
+use Rattle.calls.specs.Model.{Mode, counting, writing, to, most, put_in, put, cut_in, beyond}
 use Rattle.writer_backend.specs.declared.pieces.WriterBackend.{WriterBackend}
-use Rattle.quoted_writes.proofs.Quoting.{count-above}
 use Rattle.value_writes.specs.declared.Integer.{Integer}
 use Rattle.value_writes.specs.declared.Integer.TheVariants.{Unsigned, Signed}
 use Rattle.value_writes.specs.declared.Parts.{Parts}
-use Rattle.writer_backend.specs.Output.{mode_of, output_of}
-use Rattle.writer_backend.proofs.Sequence.{hold-zero}
+use Rattle.writer_backend.specs.Output.{mode_of, is_counting, moved_by, output_of}
+use Rattle.writer_backend.proofs.Output.{writes, written}
+use Rattle.writer_backend.proofs.Sequence.{error_number, hold-zero}
 use Rattle.value_writes.specs.Values.{bits_of, integer_of, heeded_by, text_of_parts, judged_in, value_out}
 
--- the number of an answer by whether it is 0
-by_done : (a : Answer) → number_of a ≡ cond (is_done a) 0 (suc (number_of a - 1))
-by_done Done = refl
-by_done NotEnoughSpace = refl
-by_done NotAscii = refl
-by_done NotOnCharBoundary = refl
-by_done NotUtf8 = refl
-by_done NotAChar = refl
-by_done CountTooLarge = refl
-by_done TooDeep = refl
-by_done WrongCall = refl
-by_done BadCursor = refl
+-- the number of what a judge answers
+pub fault_met : (f : Option Error) (x : Answer) → x ≡ answer_of f → answer_number x ≡ fault_number f
+fault_met None x h = rw h refl
+fault_met (Some e) x h = rw h refl
 
--- what `!fault.is_done()` tells of a fault's number
-module _ (a : Answer) {d : Bool} (t : d ≡ is_done a) where
-  pub number-met : d ≡ false → number_of a ≡ suc (number_of a - 1)
-  number-met n = let q : is_done a ≡ false = sym t ∙ n in rw q at (by_done a)
+-- a value is judged by its input, then, in writing, by its range
+module _ (m : Mode) (v : Value) where
+  pub judged_input : (e : Error) → number_of e ≡ fault_number (input_fault v) → number_of e ≡ judged_in m v
+  judged_input e p = rw (← p, error_number e)
 
-  pub number-done : d ≡ true → number_of a ≡ 0
-  number-done n = let q : is_done a ≡ true = sym t ∙ n in rw q at (by_done a)
+  pub judged_counting : {n : ℕ} → m ≡ counting n → 0 ≡ fault_number (input_fault v) → 0 ≡ judged_in m v
+  judged_counting q p = rw (← p, q)
 
--- a value that no range cuts is judged by its input
-pub judged_uncut : (m : Mode) (v : Value) (a : Answer) → a ≡ answer_of (input_fault v) → cut_fault v ≡ none → number_of a ≡ judged_in m v
-judged_uncut (counting n) v a e u = rw e (sym (hold-zero (fault_number (input_fault v))))
-judged_uncut (writing p) v a e u = rw (e, u) (sym (hold-zero (fault_number (input_fault v))))
+  pub judged_writing : {n : ℕ} → m ≡ writing n → 0 ≡ fault_number (input_fault v) → fault_number (cut_fault v) ≡ judged_in m v
+  judged_writing q p = rw (← p, q)
 
--- a string: 4, then 3 in writing
-module _ (m : Mode) (v : Value) (a : Answer) (e : a ≡ answer_of (input_fault v)) {d : Bool} (t : d ≡ is_done a) where
-  pub judged-met : d ≡ false → number_of a ≡ judged_in m v
-  judged-met n = rw (← e, number-met a t n)
+  -- one that no range cuts
+  pub judged_uncut : cut_fault v ≡ None → fault_number (input_fault v) ≡ judged_in m v
+  judged_uncut u = rw u (go m)
+    where
+      go : (m : Mode) → fault_number (input_fault v) ≡ hold (fault_number (input_fault v)) (cut_in m 0)
+      go (counting n) = sym (hold-zero (fault_number (input_fault v)))
+      go (writing p) = sym (hold-zero (fault_number (input_fault v)))
 
-  pub judged-counting : d ≡ true → {n : ℕ} → m ≡ counting n → 0 ≡ judged_in m v
-  judged-counting n q = rw (← e, number-done a t n, q)
-
-  pub judged-writing : d ≡ true → {n : ℕ} → m ≡ writing n → {r : Answer} → r ≡ answer_of (cut_fault v) → number_of r ≡ judged_in m v
-  judged-writing n q h = rw (← e, number-done a t n, q, h)
-
-module _ (m : WriterBackend) (b : List ℕ) (f : FormattingFlags) (v : Value) where
-  -- 9 before all
-  pub value_past : (a : ℕ) → a ≡ beyond (mode_of m) b → (a ≡ 0 → ⊥) → to (mode_of m) b a ≡ value_out m b f v
+-- what a value answers: 9 before all, then a fault that it meets, else its text is counted or placed
+module _ (w : WriterBackend) (b : List ℕ) (f : FormattingFlags) (v : Value) where
+  pub value_past : (e : Error) → number_of e ≡ beyond (mode_of w) b → to (mode_of w) b (number_of e) ≡ value_out w b f v
   unfolding value_out
-  value_past zero e n = absurd (n refl)
-  value_past (suc a) e n = rw (← e)
+  value_past e p = rw (← p, error_number e)
 
-  -- a cursor within the bytes: a fault that is met is answered, else the text is counted or placed
-  module _ (h : beyond (mode_of m) b ≡ 0) (a : Answer) (e : number_of a ≡ judged_in (mode_of m) v) {d : Bool} (t : d ≡ is_done a) where
-    pub value-refused : d ≡ false → {r : PieceOutcome} → r ≡ to (mode_of m) b (number_of a) → r ≡ value_out m b f v
+  module _ (h : beyond (mode_of w) b ≡ 0) where
+    pub value-refused : (e : Error) → number_of e ≡ judged_in (mode_of w) v → to (mode_of w) b (number_of e) ≡ value_out w b f v
     unfolding value_out
-    value-refused n p = p ∙ rw (h, ← e, number-met a t n)
+    value-refused e p = rw (h, ← p, error_number e)
 
-    emitted : d ≡ true → put (output_of m b) (text_of f v) ≡ value_out m b f v
+    pub value-emitted : 0 ≡ judged_in (mode_of w) v → put (output_of w b) (text_of f v) ≡ value_out w b f v
     unfolding value_out
-    emitted n = rw (h, ← e, number-done a t n)
+    value-emitted p = rw (h, ← p)
 
-    pub value-counted : d ≡ true → mode_of m ≡ counting m.number → {r : PieceOutcome} → r ≡ put_in (mode_of m) b (text_of f v) → r ≡ value_out m b f v
-    value-counted n q p = p ∙ (rw q) ∙ emitted n
-
-    pub value-placed : d ≡ true → mode_of m ≡ writing m.number → {o : Outcome} → o ≡ put_text b m.number (text_of f v) → wrote o ≡ value_out m b f v
-    unfolding put_text
-    value-placed n q p = ap wrote p ∙ by_test (ltb (length b) m.number) (placed b m.number (text_of f v)) (rw q at h) ∙ (rw q) ∙ emitted n
-      where
-        by_test : (t : Bool) (o : Outcome) → fault_number (cond t (some BadCursor) none) ≡ 0 → wrote (unless (cond t (some BadCursor) none) b m.number o) ≡ wrote o
-        by_test true o z = absurd (omega (arith, z))
-        by_test false o z = refl
+-- a single write at a cursor that does not meet 9, as a piece
+pub written_within : (w : WriterBackend) {r : Bool} → r ≡ is_counting (mode_of w) → r ≡ false → (b : List ℕ) → beyond (mode_of w) b ≡ 0 → {b' : List ℕ} (t : List ℕ) (x : Result ℕ Error) → outcome (written_at w.number x) b' ≡ put_text b w.number t
+    → moved_by (mode_of w) b' (written_at w.number x) ≡ put (output_of w b) t
+written_within w e q b h t x = written w e q b t x (by_test (ltb (length b) w.number) refl (rw (writes w e q) at h))
+  where
+    by_test : (t : Bool) → ltb (length b) w.number ≡ t → fault_number (cond t (Some BadCursor) None) ≡ 0 → w.number ≤ length b
+    by_test true e z = absurd (omega (arith, z))
+    by_test false e z = ltb-false (length b) w.number e
 
 -- what holds of every integer, of any width, holds of one by its type
 pub by_type : (P : Value → Type 0) (m : Form) → ((k : ℕ) (z : ℤ) → P (integer m k z)) → (x : Integer) → P (integer_of m x)
 by_type P m h (Unsigned w n) = h (bits_of w) (pos n)
 by_type P m h (Signed w z) = h (bits_of w) z
+
+-- an integer meets nothing
+pub integer_input : (m : Form) (x : Integer) → 0 ≡ fault_number (input_fault (integer_of m x))
+unfolding input_fault
+integer_input m x = by_type (λ v. 0 ≡ fault_number (input_fault v)) m (λ k z. refl) x
+
+pub integer_cut : (m : Form) (x : Integer) → 0 ≡ fault_number (cut_fault (integer_of m x))
+unfolding cut_fault
+integer_cut m x = by_type (λ v. 0 ≡ fault_number (cut_fault v)) m (λ k z. refl) x
 
 -- an integer's text by the flags that it heeds: its display form is decimal, its debug form by the flags
 pub integer-text : (m : Form) (f : FormattingFlags) (k : ℕ) (z : ℤ) (p : Parts) → p.flags ≡ heeded_by m f → display_text z ≡ cond p.is_negative (45 ∷ []) [] ++ decimal p.n → twos_complement k z ≡ p.bits → text_of f (integer m k z) ≡ text_of_parts p
@@ -122,6 +114,38 @@ integer-text debug f k z p e t b = rw e (by_format f.num_fmt)
 pub clamped_length : (s : List ℕ) (r q : Range) → q ≡ saturated s r → q.end - q.start ≡ length (part s r)
 clamped_length s r q e = rw e (sym (length-slice (saturated s r).start (saturated s r).end s (clamped_end s r (saturated s r) refl)))
 
--- a quoted text whose count is 0 has more than 2^64 - 1 bytes
-pub quoted-refused : (t : List ℕ) (q : DebugLen) → q ≡ count_of (length (quoted t)) → (n : ℕ) (b : List ℕ) → q.len ≡ 0 → to (counting n) b 6 ≡ put_in (counting n) b (quoted t)
-quoted-refused t q e n b z = rw (lt-ltb most (n + length (quoted t)) (omega (arith, count-above t q e z)))
+-- what a count says of a text: its length, or that it has more than 2^64 - 1 bytes, which is refused with 6
+pub count_ok : (n k : ℕ) → Ok k ≡ count_of n → k ≡ n
+count_ok n k e = go (nat_lt n (2 ^ 64)) e
+  where
+    go : (t : Bool) → ◌≡◌ {A = Result ℕ Error} (Ok k) (cond t (Ok n) (Err CountTooLarge)) → k ≡ n
+    go true e = cc e
+    go false e = cc e
+
+pub count-refused : (t : List ℕ) (e : Error) → Err e ≡ count_of (length t) → (n : ℕ) (b : List ℕ) → to (counting n) b (number_of e) ≡ put_in (counting n) b t
+count-refused t e q n b = go (nat_lt (length t) (2 ^ 64)) refl q
+  where
+    go : (x : Bool) → nat_lt (length t) (2 ^ 64) ≡ x → ◌≡◌ {A = Result ℕ Error} (Err e) (cond x (Ok (length t)) (Err CountTooLarge)) → to (counting n) b (number_of e) ≡ put_in (counting n) b t
+    go true h k = cc k
+    go false h k =
+        let z : e ≡ CountTooLarge = cc k in
+        let l : 2 ^ 64 ≤ length t = ltb-false (length t) (2 ^ 64) h in
+        rw (z, lt-ltb most (n + length t) (omega arith)) refl
+
+-- what the length of a character says of it: that it is one, or that it is none
+module _ (m : Form) (c n : ℕ) where
+  pub char_ok : (k : ℕ) → Ok k ≡ unless_no_char c n → (k ≡ n) × (0 ≡ fault_number (input_fault (char m c)))
+  unfolding input_fault
+  char_ok k e = go (is_scalar c) e
+    where
+      go : (x : Bool) → ◌≡◌ {A = Result ℕ Error} (Ok k) (cond x (Ok n) (Err NotAChar)) → (k ≡ n) × (0 ≡ fault_number (cond x None (Some NotAChar)))
+      go true q = (cc q, refl)
+      go false q = cc q
+
+  pub char_err : (e : Error) → Err e ≡ unless_no_char c n → number_of e ≡ fault_number (input_fault (char m c))
+  unfolding input_fault
+  char_err e q = go (is_scalar c) q
+    where
+      go : (x : Bool) → ◌≡◌ {A = Result ℕ Error} (Err e) (cond x (Ok n) (Err NotAChar)) → number_of e ≡ fault_number (cond x None (Some NotAChar))
+      go true q = cc q
+      go false q = let z : e ≡ NotAChar = cc q in rw z refl

@@ -4,7 +4,8 @@ use Rattle.formatting.specs.declared.flags.FormattingFlags.{FormattingFlags}
 use Rattle.formatting.specs.declared.flags.NumberFormatting.TheVariants.{Decimal}
 use Rattle.pwrapper.specs.Number.{debug_parts}
 use Rattle.str_writer.specs.Value.{Form, display, debug, Value, integer, char, str, ascii, repeated, text_of, input_fault, cut_fault}
-use Rattle.calls.specs.Call.{fault_number, hold}
+use Rattle.error.specs.Answer.{fault_number}
+use Rattle.calls.specs.Call.{hold}
 use Rattle.calls.specs.Model.{Mode, Output, PieceOutcome, put, cut_in, beyond}
 use Rattle.writer_backend.specs.declared.pieces.WriterBackend.{WriterBackend}
 use Rattle.value_writes.specs.declared.Form as code

@@ -1,20 +1,20 @@
 -- One piece: its length added to a total, or its text written at the cursor.
 use mathlib.Core.Bool.{Bool, true, false, false≢true}
-use mathlib.Core.Path.{◌≡◌, refl, sym, ◌∙◌}
+use mathlib.Core.Path.{◌≡◌, refl, sym, ap, ◌∙◌}
 use mathlib.Core.List.{List}
 use Prim.Native.Nat.{ℕ, zero, suc, ◌+◌, ◌%◌, ◌≤◌, ◌<◌}
 use native.Mathlib.Omega.{arith}
 use lib.Dec.{eqb}
 use lib.ListN.{length}
 use borrow.Author.Tests.{lt-ltb}
-use Rattle.error.specs.Answer.{number_of}
-use Rattle.calls.specs.Model.{Mode, number_in, to, counting, writing, put_in, put, wrote}
-use Rattle.str_writer.specs.declared.piece.Written.{Written}
-use Rattle.str_writer.specs.Write.{outcome, placed}
+use Rattle.calls.specs.Model.{number_in, to, counting, writing, put_in, put, wrote}
+use Rattle.std.specs.Prelude.{Result}
+use Rattle.error.specs.declared.Error.{Error}
+use Rattle.str_writer.specs.Write.{written as written_at, outcome, placed}
 use Rattle.str_writer.specs.Write.{put as put_text}
 use Rattle.str_writer.proofs.Outcomes.{put-placed}
 use Rattle.writer_backend.specs.declared.pieces.WriterBackend.{WriterBackend}
-use Rattle.writer_backend.specs.Output.{as_mode, mode_of, is_counting, with_number, added, output_of}
+use Rattle.writer_backend.specs.Output.{as_mode, mode_of, is_counting, with_number, moved_by, added, output_of}
 
 as_counting : (t n : ℕ) → is_counting (as_mode t n) ≡ true → as_mode t n ≡ counting n
 as_counting zero n e = absurd (false≢true e)
@@ -55,13 +55,6 @@ module _ (w : WriterBackend) {r : Bool} (e : r ≡ is_counting (mode_of w)) wher
   pub adds : r ≡ true → (b t : List ℕ) {n : ℕ} → n ≡ length t → added (mode_of w) b n ≡ put_in (mode_of w) b t
   adds q b t l = rw (counts q, l)
 
-  -- the outcome of a single write, where a text is written
-  pub wrote_at : r ≡ false → (x : Written) (b : List ℕ) → to (with_number (mode_of w) x.at) b (number_of x.answer) ≡ wrote (outcome x b)
-  wrote_at q x b = rw (writes q)
-
-  pub counts-at : r ≡ true → {m : Mode} (x : ℕ) → m ≡ with_number (mode_of w) x → m ≡ counting x
-  counts-at t x q = q ∙ rw (counts t)
-
 module _ (w : WriterBackend) (b : List ℕ) (e : mode_of w ≡ writing w.number) (s : List ℕ) where
   -- a cursor past the bytes has no room
   pub put_past : length b < w.number → to (mode_of w) b 1 ≡ put (output_of w b) s
@@ -70,3 +63,11 @@ module _ (w : WriterBackend) (b : List ℕ) (e : mode_of w ≡ writing w.number)
 
   pub put-writes : w.number ≤ length b → wrote (put_text b w.number s) ≡ put (output_of w b) s
   put-writes h = rw (e, ← put-placed b w.number s h)
+
+-- a single write at a cursor within the bytes, as a piece
+pub written : (w : WriterBackend) {r : Bool} → r ≡ is_counting (mode_of w) → r ≡ false → (b : List ℕ) {b' : List ℕ} (t : List ℕ) (x : Result ℕ Error) → w.number ≤ length b → outcome (written_at w.number x) b' ≡ put_text b w.number t
+    → moved_by (mode_of w) b' (written_at w.number x) ≡ put (output_of w b) t
+written w e q b {b'} t x h p =
+    let m = writes w e q in
+    let same : moved_by (mode_of w) b' (written_at w.number x) ≡ wrote (outcome (written_at w.number x) b') = rw m in
+    same ∙ ap wrote p ∙ put-writes w b m t h

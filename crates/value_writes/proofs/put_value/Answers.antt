@@ -1,30 +1,27 @@
-use mathlib.Core.Path.{◌≡◌, sym, ◌∙◌}
+use mathlib.Core.Path.{◌≡◌, refl, sym, ◌∙◌}
+use Rattle.std.proofs.lemmas.Result.{err_from_is_err_and}
 use Rattle.calls.specs.Model.{beyond}
+use Rattle.str_writer.specs.Value.{integer, repeated, text_of, input_fault, cut_fault}
 use Rattle.writer_backend.specs.Output.{mode_of}
-use Rattle.value_writes.specs.Values.{value_of}
-use Rattle.value_writes.proofs.ValueLaws.{value_past}
+use Rattle.value_writes.specs.Values.{form_of, integer_of, value_of, judged_in}
+use Rattle.value_writes.proofs.ValueLaws.{judged_uncut, value_past, value-emitted, by_type}
 use Rattle.value_writes.proofs.put_value.Goals as goal
 
-pub returns-then-fault-number : goal.returns-then-fault-number
-returns-then-fault-number c = let a = c.before.args in
-    value_past a.m a.buf.now a.flags (value_of a.v a.s.now) c.past-fault.result c.past-fault.ensures (λ z. c.if-fault-number.true (z ∙ sym c.number.ensures))
+pub returns-in_err-judge : goal.returns-in_err-judge
+returns-in_err-judge c = let a = c.args in
+    let p = err_from_is_err_and c.from_residual.result c.from_residual.ensures.1 in
+    rw (p.1, p.2) (value_past a.writer.now a.buf.now a.flags (value_of a.v a.s.now) _ c.in_err-judge.ensures)
 
-pub returns-in-Char : goal.returns-in-Char
-returns-in-Char c =
-    let within : beyond (mode_of c.args.m) c.args.buf.now ≡ 0 = sym c.past-fault.ensures ∙ c.if-fault-number.false ∙ c.number.ensures in
-    rw c.in-Char.is (c.put_char.ensures c.args.flags within)
-
-pub returns-in-Str : goal.returns-in-Str
-returns-in-Str c =
-    let within : beyond (mode_of c.args.m) c.args.buf.now ≡ 0 = sym c.past-fault.ensures ∙ c.if-fault-number.false ∙ c.number.ensures in
-    rw c.in-Str.is (c.put_str.ensures c.args.flags within)
-
-pub returns-in-Ascii : goal.returns-in-Ascii
-returns-in-Ascii c =
-    let within : beyond (mode_of c.args.m) c.args.buf.now ≡ 0 = sym c.past-fault.ensures ∙ c.if-fault-number.false ∙ c.number.ensures in
-    rw c.in-Ascii.is (c.put_ascii.ensures c.args.flags within)
+pub returns-in-Int : goal.returns-in-Int
+unfolding input_fault cut_fault
+returns-in-Int c = let a = c.args in
+    let within : beyond (mode_of a.writer.now) a.buf.now ≡ 0 = sym c.in_ok-judge.ensures in
+    let m = mode_of a.writer.now in
+    rw c.in-Int.is (c.put_integer.ensures ∙ rw (← c.parts_of.ensures) (value-emitted a.writer.now a.buf.now a.flags (integer_of (form_of c.in-Int.form) c.in-Int.x) within (by_type (λ v. 0 ≡ judged_in m v) (form_of c.in-Int.form) (λ k z. judged_uncut m (integer (form_of c.in-Int.form) k z) refl) c.in-Int.x)))
 
 pub returns-in-Repeated : goal.returns-in-Repeated
-returns-in-Repeated c =
-    let within : beyond (mode_of c.args.m) c.args.buf.now ≡ 0 = sym c.past-fault.ensures ∙ c.if-fault-number.false ∙ c.number.ensures in
-    rw c.in-Repeated.is (c.put_repeated.ensures c.args.flags within)
+unfolding text_of input_fault cut_fault
+returns-in-Repeated c = let a = c.args in
+    let within : beyond (mode_of a.writer.now) a.buf.now ≡ 0 = sym c.in_ok-judge.ensures in
+    let v = repeated c.in-Repeated.c c.in-Repeated.n in
+    rw c.in-Repeated.is (c.put_repeated.ensures ∙ value-emitted a.writer.now a.buf.now a.flags v within (judged_uncut (mode_of a.writer.now) v refl))
