@@ -1,23 +1,21 @@
 -- A line answered: both runs advanced by a call, or none.
 use mathlib.Core.Bool.{true}
-use mathlib.Core.Option as maybe
 use mathlib.Core.Path.{◌≡◌, refl, ap}
 use mathlib.Core.List.{List, [], ◌∷◌}
 use Prim.Native.Nat.{ℕ, zero, suc, ◌%◌, ◌≤◌}
 use native.Mathlib.Omega.{arith}
 use lib.ListN.{length}
-use Rattle.std.specs.Prelude.{Option, Some, None, is_some}
-use Rattle.std.proofs.lemmas.Option.{none-some, same_Some}
-use Rattle.sheet_line.specs.Reading.{option_from}
+use Rattle.std.specs.Prelude.{Option, Some}
+use Rattle.error.specs.Answer.{Answer, answer_number}
 use Rattle.calls.specs.Call.{Call}
 use Rattle.calls.specs.Model.{number_in, step}
 use Rattle.str_writer.specs.Write.{Written, outcome, put}
 use Rattle.writer_backend.specs.declared.pieces.WriterBackend.{WriterBackend}
 use Rattle.writer_backend.specs.Output.{as_mode, mode_of}
-use Rattle.formatter.specs.Calls.{step_or}
+use Rattle.formatter.specs.View.{view_f, view_f_out}
 use Rattle.sheet.specs.declared.Sheet as code
 use Rattle.sheet.specs.Sheet.{Sheet, row_text, stepped}
-use Rattle.sheet.specs.SheetView.{run_of, answer_of, sheet_of, Step, stepped_of, stepping, LineAnswer, answering}
+use Rattle.sheet.specs.SheetView.{sheet_of, Step, stepped_of, stepping, LineAnswer, answering}
 
 number_of : (t n : ℕ) → number_in (as_mode t n) ≡ n
 number_of zero n = refl
@@ -31,23 +29,13 @@ pub empty : (l : List ℕ) → length l ≡ 0 → l ≡ []
 empty [] h = refl
 empty (x ∷ l) h = absurd (omega arith)
 
-from_some : (o : maybe.Option Call) (c : Call) → option_from o ≡ Some c → o ≡ maybe.some c
-from_some maybe.none c e = absurd (none-some c e)
-from_some (maybe.some x) c e = ap maybe.some (same_Some x c e)
-
 -- both runs play the same call
-module _ (k : ℕ) (S T : code.Sheet) (b n' b' : List ℕ) (x y : ℕ) (o : maybe.Option Call) where
-  pub both : answer_of x T.counted n' ≡ step_or (run_of S.counted []) o → length n' ≡ 0 → answer_of y T.written b' ≡ step_or (run_of S.written b) o → (c : Call) → option_from o ≡ Some c
-      → stepped_of T (record { line = k; counting_answer = x; total = T.counted.head.mode.number; writing_answer = y; cursor = T.written.head.mode.number }) b' ≡ stepping k (sheet_of S b) c
-  both p z q c e =
-      let a : answer_of x T.counted [] ≡ step (run_of S.counted []) c = rw (from_some o c e, empty n' z) at p in
-      let d : answer_of y T.written b' ≡ step (run_of S.written b) c = rw (from_some o c e) at q in
-      rw (← a, ← d, number_in_lem T.counted.head.mode, number_in_lem T.written.head.mode)
-
--- the call of a line that is one
-pub a_call : (o : Option Call) → is_some o ≡ true → (c : Call) × (o ≡ Some c)
-a_call None h = let z : ◌≡◌ {A = ℕ} 0 1 = cc in absurd (omega arith)
-a_call (Some c) h = (c, refl)
+module _ (k : ℕ) (S T : code.Sheet) (b n' b' : List ℕ) (x y : Answer) (c : Call) where
+  pub both : view_f_out x T.counted n' ≡ step (view_f S.counted []) c → length n' ≡ 0 → view_f_out y T.written b' ≡ step (view_f S.written b) c
+      → stepped_of T (record { line = k; counting_answer = answer_number x; total = T.counted.head.writer.number; writing_answer = answer_number y; cursor = T.written.head.writer.number }) b' ≡ stepping k (sheet_of S b) c
+  both p z q =
+      let a : view_f_out x T.counted [] ≡ step (view_f S.counted []) c = rw (empty n' z) at p in
+      rw (← a, ← q, number_in_lem T.counted.head.writer, number_in_lem T.written.head.writer)
 
 module _ (k : ℕ) (S : Sheet) (o : Option Call) (out : List ℕ) (at : ℕ) (w : Written) (out' : List ℕ) where
   pub answer-call : (c : Call) (t : Step) → o ≡ Some c → t ≡ stepping k S c → outcome w out' ≡ put out at (row_text t.row) → ◌≡◌ {A = LineAnswer} (record { is_call = true; sheet = t.sheet; printed = outcome w out' }) (answering k S o out at)
