@@ -1,6 +1,6 @@
 -- A line answered: both runs advanced by a call, or none.
 use mathlib.Core.Bool.{true}
-use mathlib.Core.Path.{◌≡◌, refl, ap}
+use mathlib.Core.Path.{◌≡◌, refl}
 use mathlib.Core.List.{List, [], ◌∷◌}
 use Prim.Native.Nat.{ℕ, zero, suc, ◌%◌, ◌≤◌}
 use native.Mathlib.Omega.{arith}
