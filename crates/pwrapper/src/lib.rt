@@ -11,5 +11,5 @@ mod radix;
 pub use debug::compute_debug_len;
 pub use display::{compute_display_len, decimal_len};
 pub use integer::PrimitiveInteger;
-pub use quoted::{DebugLen, compute_utf8_debug_len, compute_utf8_debug_len_in_range};
+pub use quoted::{compute_utf8_debug_len, compute_utf8_debug_len_in_range};
 pub use radix::{binary_len, hexadecimal_len};
