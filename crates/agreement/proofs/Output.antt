@@ -9,7 +9,7 @@ use native.Mathlib.Omega.{arith}
 use lib.ListN.{length, take, drop, length-append}
 use lib.Seq.{take-append-le, take-take, length-take-le, drop_at, drop-drop}
 use borrow.Author.Tests.{lt-ltb, le-ltb}
-use Rattle.error.specs.declared.Answer.TheVariants.{NotEnoughSpace, CountTooLarge}
+use Rattle.error.specs.declared.Error.TheVariants.{NotEnoughSpace, CountTooLarge}
 use Rattle.error.specs.Answer.{number_of}
 use Rattle.str_writer.specs.Write.{splice, placed}
 use Rattle.str_writer.proofs.Splice.{splice-splice, length-splice}

@@ -1,7 +1,7 @@
 -- Demand 3, as one statement about whole lists of calls.
 use Rattle.std.specs.Prelude.{◌≡◌, ◌↔◌, List, [], ◌∷◌, ◌++◌, ℕ, ◌+◌, ◌≤◌, ◌<◌, length, take, drop}
-use Rattle.error.specs.declared.Answer.TheVariants.{Done, NotEnoughSpace}
-use Rattle.error.specs.Answer.{number_of}
+use Rattle.error.specs.declared.Error.TheVariants.{NotEnoughSpace}
+use Rattle.error.specs.Answer.{done, number_of}
 use Rattle.calls.specs.declared.Settings.{Settings}
 use Rattle.calls.specs.Call.{Call, cut_number, hold}
 use Rattle.calls.specs.Ledger.{text_in, ledger, fresh, Permitted}
@@ -10,16 +10,16 @@ use Rattle.calls.specs.Model.{counting, writing, Run, run, start, most}
 -- demand 3, 'succeeds': every answer is 0
 abbrev pub AllDone : List ℕ → Type 0
 AllDone [] = Unit {0}
-AllDone (a ∷ r) = (a ≡ number_of Done) × AllDone r
+AllDone (a ∷ r) = (a ≡ done) × AllDone r
 
 -- demand 3: the first answer that is not 0; 0 where each is
 abbrev pub first_refusal : List ℕ → ℕ
-first_refusal [] = number_of Done
+first_refusal [] = done
 first_refusal (a ∷ r) = hold a (first_refusal r)
 
 -- Document 01, 'A nested record': both ends of each clamped range are boundaries
 abbrev pub Whole : Call → Type 0
-Whole c = cut_number c ≡ number_of Done
+Whole c = cut_number c ≡ done
 
 -- Document 01, 'A nested record': the run cuts strings only between characters
 abbrev pub AllWhole : List Call → Type 0

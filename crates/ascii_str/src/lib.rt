@@ -14,9 +14,9 @@ pub struct NotAsciiError {
 }
 
 impl From<NotAsciiError> for Error {
-    fn from(_: NotAsciiError) -> Error
-        ensures { result ≡ NotAscii }
-    {
+    ghost from_gives = { λ _ error. error ≡ NotAscii };
+
+    fn from(_: NotAsciiError) -> Error {
         Error::NotAscii
     }
 }

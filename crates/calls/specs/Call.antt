@@ -1,9 +1,8 @@
 -- Document 01, 'A nested record, and its count': the calls of a run with their arguments, the fixed words and limits of a record, the pieces of a call, and what it meets.
-use Rattle.std.specs.Prelude.{Bool, true, false, cond, ◌||◌, List, [], ◌∷◌, ℕ, zero, suc, leb, ltb, replicate}
-use Rattle.std.proofs.Math.Option.{Option, none}
-use Rattle.error.specs.declared.Answer.{Answer}
-use Rattle.error.specs.declared.Answer.TheVariants.{TooDeep, WrongCall}
-use Rattle.error.specs.Answer.{number_of, answer_of}
+use Rattle.std.specs.Prelude.{Bool, true, false, cond, ◌||◌, List, [], ◌∷◌, ℕ, zero, suc, leb, ltb, replicate, Option, None}
+use Rattle.error.specs.declared.Error.{Error}
+use Rattle.error.specs.declared.Error.TheVariants.{TooDeep, WrongCall}
+use Rattle.error.specs.Answer.{number_of, fault_number}
 use Rattle.formatting.specs.declared.flags.FormattingFlags.{FormattingFlags}
 use Rattle.formatting.specs.Bytes.{bytes}
 use Rattle.str_writer.specs.Value.{Value, text_fault, input_fault, cut_fault}
@@ -177,27 +176,23 @@ too_deep depth margin (sub f) = leb 64 depth
 too_deep depth margin endsub = false
 too_deep depth margin finish = false
 
--- 'The answer to a call': the number of a fault, 0 where none is met
-abbrev pub fault_number : Option Answer → ℕ
-fault_number a = number_of (answer_of a)
-
 -- 'The answer to a call', 2, 4 and 5: what the arguments of a call meet; a name meets what a string does
-abbrev pub argument_fault : Call → Option Answer
+abbrev pub argument_fault : Call → Option Error
 argument_fault (opens k name) = text_fault (name_of k name)
 argument_fault (place x) = text_fault (place_name x)
 argument_fault (value v) = input_fault v
-argument_fault (sub f) = none
-argument_fault endsub = none
-argument_fault finish = none
+argument_fault (sub f) = None
+argument_fault endsub = None
+argument_fault finish = None
 
 -- 'The answer to a call', 3: a clamped range cuts a character
-abbrev pub cut_of : Call → Option Answer
-cut_of (opens k name) = none
-cut_of (place x) = none
+abbrev pub cut_of : Call → Option Error
+cut_of (opens k name) = None
+cut_of (place x) = None
 cut_of (value v) = cut_fault v
-cut_of (sub f) = none
-cut_of endsub = none
-cut_of finish = none
+cut_of (sub f) = None
+cut_of endsub = None
+cut_of finish = None
 
 -- 'The answer to a call', 3: its number
 abbrev pub cut_number : Call → ℕ

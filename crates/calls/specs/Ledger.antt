@@ -1,8 +1,7 @@
 -- Document 01, 'A nested record, and its count': the ledger, which is fed the starting flags and the calls with their arguments, and no answer, cursor or formatter.
 use Rattle.std.specs.Prelude.{Bool, true, false, ◌≡◌, ℕ, zero, suc, ◌*◌, length}
 use mathlib.Core.List.{List, [], ◌∷◌, ◌++◌, flatten}
-use Rattle.error.specs.declared.Answer.TheVariants.{Done}
-use Rattle.error.specs.Answer.{number_of}
+use Rattle.error.specs.Answer.{done}
 use Rattle.formatting.specs.declared.flags.FormattingFlags.{FormattingFlags}
 use Rattle.str_writer.specs.Value.{text_of}
 use Rattle.calls.specs.declared.Kind.{Kind}
@@ -124,4 +123,4 @@ ledger L (c ∷ cs) = ledger (feed L c) cs
 -- 'A nested record': a run is permitted when none of its calls meets 2, 4, 5, 7 or 8 in the ledger
 abbrev pub Permitted : Ledger → List Call → Type 0
 Permitted L [] = Unit {0}
-Permitted L (c ∷ cs) = (meets L c ≡ number_of Done) × Permitted (feed L c) cs
+Permitted L (c ∷ cs) = (meets L c ≡ done) × Permitted (feed L c) cs

@@ -1,14 +1,14 @@
 -- Document 01, 'A nested record, and its count': the formatter and the counter. Each call is judged, moves the open entries, and emits its pieces.
 use Rattle.std.specs.Prelude.{Bool, true, false, cond, List, [], ◌∷◌, ℕ, zero, suc, ◌+◌, ◌-◌, ◌^◌, ltb, length}
-use Rattle.error.specs.declared.Answer.TheVariants.{Done, CountTooLarge}
-use Rattle.error.specs.Answer.{number_of}
+use Rattle.error.specs.declared.Error.TheVariants.{CountTooLarge}
+use Rattle.error.specs.Answer.{done, number_of, fault_number, answer_number}
 use Rattle.formatting.specs.declared.flags.FormattingFlags.{FormattingFlags}
 use Rattle.str_writer.specs.Value.{text_of}
 use Rattle.str_writer.specs.Write.{Outcome, cursor_fault}
 use Rattle.str_writer.specs.Write.{placed as placed_text}
 use Rattle.calls.specs.declared.Kind.{Kind}
 use Rattle.calls.specs.declared.Settings.{Settings}
-use Rattle.calls.specs.Call.{Place, Call, opens, place, value, sub, endsub, finish, open_pieces, place_pieces, close_pieces, Innermost, nothing, a_builder, a_sub, fault_number, cut_number, call_fault, hold}
+use Rattle.calls.specs.Call.{Place, Call, opens, place, value, sub, endsub, finish, open_pieces, place_pieces, close_pieces, Innermost, nothing, a_builder, a_sub, cut_number, call_fault, hold}
 
 -- 'A nested record': a counting run with its total, or a writing run with its cursor
 pub data Mode : Type 0 where
@@ -39,11 +39,11 @@ most = 2 ^ 64 - 1
 
 -- 'The writer': a single write's outcome as that of a piece
 abbrev pub wrote : Outcome → PieceOutcome
-wrote o = to (writing o.written.at) o.bytes (number_of o.written.answer)
+wrote o = to (writing o.written.at) o.bytes (answer_number o.written.answer)
 
 -- 'A nested record': a counting run adds the length of a piece, a writing run writes it
 abbrev pub put_in : Mode → List ℕ → List ℕ → PieceOutcome
-put_in (counting n) b t = cond (ltb most (n + length t)) (to (counting n) b (number_of CountTooLarge)) (to (counting (n + length t)) b (number_of Done))
+put_in (counting n) b t = cond (ltb most (n + length t)) (to (counting n) b (number_of CountTooLarge)) (to (counting (n + length t)) b done)
 put_in (writing c) b t = wrote (placed_text b c t)
 
 -- 'The answer to a call': a refused piece keeps the total or the cursor, and all bytes
@@ -52,7 +52,7 @@ put d t = put_in d.mode d.bytes t
 
 -- 'A nested record': no piece
 abbrev pub put_none : Output → PieceOutcome
-put_none d = record { answer = number_of Done; output = d }
+put_none d = record { answer = done; output = d }
 
 -- 'A nested record', opening, field or entry: each piece is tried even after one is refused
 abbrev pub tries : Output → List (List ℕ) → PieceOutcome
@@ -119,12 +119,12 @@ inner (outer U ∷ s) = a_sub
 
 -- 'The answer to a call', 9: the cursor given exceeds the buffer's length
 abbrev pub beyond : Mode → List ℕ → ℕ
-beyond (counting n) b = number_of Done
+beyond (counting n) b = done
 beyond (writing c) b = fault_number (cursor_fault b c)
 
 -- 'The answer to a call', 3: writing only; a counting run does not test boundaries
 abbrev pub cut_in : Mode → ℕ → ℕ
-cut_in (counting n) c = number_of Done
+cut_in (counting n) c = done
 cut_in (writing p) c = c
 
 -- judge. 'The answer to a call', order: 8, 7, then 2, 4 or 5, then 3
@@ -147,7 +147,7 @@ unmoved F = record { flags = F.flags; margin = F.margin; stack = F.stack }
 
 -- move. 'A nested record', opening a builder: raise the margin by 4 even if refused
 abbrev pub move_open : State → Kind → Moved
-move_open F k = record { flags = F.flags; margin = F.margin + 4; stack = builder (record { kind = k; has_field = false; held = number_of Done }) ∷ F.stack }
+move_open F k = record { flags = F.flags; margin = F.margin + 4; stack = builder (record { kind = k; has_field = false; held = done }) ∷ F.stack }
 
 -- move. 'A nested record', field or entry: the builder now has a field
 abbrev pub move_place : State → List Entry → Moved
@@ -228,7 +228,7 @@ with_held a (outer U ∷ s) = outer U ∷ s
 
 -- 'A nested record': the formatter moved, with the output of what was emitted
 abbrev pub settled : Bool → Moved → PieceOutcome → Out
-settled true M r = record { answer = number_of Done; state = record { output = r.output; flags = M.flags; margin = M.margin; stack = with_held r.answer M.stack } }
+settled true M r = record { answer = done; state = record { output = r.output; flags = M.flags; margin = M.margin; stack = with_held r.answer M.stack } }
 settled false M r = record { answer = r.answer; state = record { output = r.output; flags = M.flags; margin = M.margin; stack = M.stack } }
 
 -- 'The answer to a call': a call that answers 2 to 9 changes nothing

@@ -1,41 +1,39 @@
 -- Integers: a prefix with digits after it at the cursor, and an integer by its sign, its absolute value and its two's complement.
-use mathlib.Core.Bool.{true}
 use mathlib.Core.Path.{◌≡◌, refl}
 use mathlib.Core.List.{List, ◌++◌}
 use Prim.Native.Nat.{ℕ, ◌+◌, ◌-◌, ◌≤◌}
 use native.Mathlib.Omega.{arith}
 use lib.IntN.{ℤ}
 use lib.ListN.{length, length-append}
-use Rattle.error.specs.declared.Answer.{Answer}
-use Rattle.error.specs.declared.Answer.TheVariants.{Done}
-use Rattle.error.specs.Answer.{is_done}
+use Rattle.std.specs.Prelude.{⊤, Ok}
+use Rattle.error.specs.Answer.{answer_of}
 use Rattle.formatting.specs.declared.flags.FormattingFlags.{FormattingFlags}
 use Rattle.pwrapper.specs.Number.{display_text, debug_text}
 use Rattle.str_writer.specs.Value.{Form, display, debug, integer, text_of, input_fault, cut_fault}
-use Rattle.str_writer.specs.Write.{outcome, splice, put, write}
+use Rattle.str_writer.specs.Write.{outcome, splice, cursor_fault, put, write}
 use Rattle.str_writer.proofs.Splice.{splice-splice, length-splice}
 use Rattle.str_writer.proofs.Outcomes.{put-done, put-write}
-use Rattle.str_writer.proofs.Judging.{put-fits}
+use Rattle.str_writer.proofs.Judging.{met, cursor-fits, put-fits}
 
 -- where a text of len bytes fits, p with the digits d after it: p can be put, then d, and the two are the text
 pub record Prefixed (b : List ℕ) (at : ℕ) (p d : List ℕ) (len : ℕ) : Type 0 where
   pub room : at + len ≤ length b
   pub prefix : at + length p ≤ length b
   pub digits : (length d ≤ at + len) × (at + len ≤ length (splice b at p))
-  pub done : outcome (record { at = at + len; answer = Done }) (splice (splice b at p) (at + len - length d) d) ≡ put b at (p ++ d)
+  pub done : outcome (record { at = at + len; answer = Ok tt }) (splice (splice b at p) (at + len - length d) d) ≡ put b at (p ++ d)
 
--- what the test of the cursor and the room answers for such a text
-module _ (b : List ℕ) (at : ℕ) (p d : List ℕ) {len : ℕ} (e : len ≡ length (p ++ d)) (x : Answer) (k : x ≡ (put b at (p ++ d)).written.answer) where
-  pub prefixed : is_done x ≡ true → Prefixed b at p d len
-  prefixed g =
-      let h = put-fits b at (p ++ d) x k g in
+-- past the tests of the cursor and of the room such a text fits
+module _ (b : List ℕ) (at : ℕ) (p d : List ℕ) {len : ℕ} (e : len ≡ length (p ++ d)) where
+  pub prefixed : {u v : ⊤} → Ok u ≡ answer_of (cursor_fault b at) → (at ≤ length b → Ok v ≡ (put b at (p ++ d)).written.answer) → Prefixed b at p d len
+  prefixed k g =
+      let h = put-fits b at (p ++ d) _ (g (cursor-fits b at (met _ _ k))) in
       let l : length (p ++ d) ≡ length p + length d = length-append p d in
       let m : at + len - length d ≡ at + length p = omega arith in
       record {
         room = omega arith;
         prefix = omega arith;
         digits = rw (length-splice b at p (omega arith)) (omega arith);
-        done = rw (m, splice-splice b at p d (omega arith), e) (put-done b at (p ++ d) h.0 h.1);
+        done = rw (m, splice-splice b at p d (omega arith), e) (put-done b at (p ++ d) (omega arith) (omega arith));
       }
 
 -- an integer meets no fault: its text is put as a piece

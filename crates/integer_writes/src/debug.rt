@@ -1,12 +1,12 @@
 // An integer of any type, by the flags.
 ghost use Rattle.std.specs.Prelude.{◌≡◌};
 ghost use Rattle.str_writer.specs.Value.{integer, debug};
-ghost use Rattle.str_writer.specs.Write.{outcome, write};
+ghost use Rattle.str_writer.specs.Write.{outcome, write, written};
 
 use crate::number::write_debug_parts;
+use error::Error;
 use formatting::FormattingFlags;
 use pwrapper::PrimitiveInteger;
-use str_writer::Written;
 
 // Writes an integer at the cursor, in the form that the flags say.
 pub fn write_debug<I: PrimitiveInteger>(
@@ -14,8 +14,8 @@ pub fn write_debug<I: PrimitiveInteger>(
     at: usize,
     x: I,
     flags: FormattingFlags,
-) -> Written
-    ensures { outcome result buf.new ≡ write flags buf.old at (integer debug I.BITS (I.value x)) }
+) -> Result<usize, Error>
+    ensures { outcome (written at result) buf.new ≡ write flags buf.old at (integer debug I.BITS (I.value x)) }
 {
     write_debug_parts(
         buf,

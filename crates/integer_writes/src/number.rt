@@ -6,13 +6,13 @@ ghost use Rattle.pwrapper.specs.Digits.{digit_text};
 ghost use Rattle.pwrapper.specs.Number.{decimal, display_text, twos_complement, prefix, hex_text, bin_text, debug_parts};
 ghost use Rattle.integer_writes.specs.Mark.{mark_text};
 ghost use Rattle.str_writer.specs.Value.{integer, debug};
-ghost use Rattle.str_writer.specs.Write.{outcome, splice, write};
+ghost use Rattle.str_writer.specs.Write.{outcome, splice, write, written};
 ghost use Rattle.str_writer.specs.Write.{put as put_text};
 
-use error::Answer;
+use error::Error;
 use formatting::{FormattingFlags, HexFormatting, NumberFormatting, hex_as_ascii};
 use pwrapper::{binary_len, decimal_len, hexadecimal_len};
-use str_writer::{Written, cursor_fault, room_fault};
+use str_writer::{cursor_fault, room_fault};
 
 // What stands before the digits of a number.
 #[derive(Clone, Copy)]
@@ -86,31 +86,22 @@ fn write_digits<const BASE: u64>(
     n: u64,
     hex_fmt: HexFormatting,
     len: usize,
-) -> Written
+) -> Result<usize, Error>
     requires base { (2 ≤ BASE) × (BASE ≤ 16) }
     requires whole { len ≡ length (mark_text mark ++ digit_text (hex_digit hex_fmt) BASE n) }
-    ensures { outcome result buf.new ≡ put_text buf.old at (mark_text mark ++ digit_text (hex_digit hex_fmt) BASE n) }
+    ensures { outcome (written at result) buf.new ≡ put_text buf.old at (mark_text mark ++ digit_text (hex_digit hex_fmt) BASE n) }
 {
-    let fault = cursor_fault(buf.len(), at);
-    if !fault.is_done() {
-        return Written { at, answer: fault };
-    }
-    let short = room_fault(buf.len() - at, len);
-    if !short.is_done() {
-        return Written { at, answer: short };
-    }
+    cursor_fault(buf.len(), at)?;
+    room_fault(buf.len() - at, len)?;
     let end = at + len;
     put_mark(buf, at, mark);
     lay_digits::<BASE>(buf, end, n, hex_fmt);
-    Written {
-        at: end,
-        answer: Answer::Done,
-    }
+    Ok(end)
 }
 
 // Writes n in decimal, with a minus before it where is_negative.
-pub fn write_decimal(buf: &mut [u8], at: usize, is_negative: bool, n: u64) -> Written
-    ensures { outcome result buf.new ≡ put_text buf.old at (cond is_negative (45 ∷ []) [] ++ decimal n) }
+pub fn write_decimal(buf: &mut [u8], at: usize, is_negative: bool, n: u64) -> Result<usize, Error>
+    ensures { outcome (written at result) buf.new ≡ put_text buf.old at (cond is_negative (45 ∷ []) [] ++ decimal n) }
 {
     let len = decimal_len(is_negative, n);
     // The digits below ten are the same in upper and lower case.
@@ -118,16 +109,21 @@ pub fn write_decimal(buf: &mut [u8], at: usize, is_negative: bool, n: u64) -> Wr
 }
 
 // Writes n in hexadecimal.
-fn write_hexadecimal(buf: &mut [u8], at: usize, n: u64, flags: FormattingFlags) -> Written
-    ensures { outcome result buf.new ≡ put_text buf.old at (hex_text flags n) }
+fn write_hexadecimal(
+    buf: &mut [u8],
+    at: usize,
+    n: u64,
+    flags: FormattingFlags,
+) -> Result<usize, Error>
+    ensures { outcome (written at result) buf.new ≡ put_text buf.old at (hex_text flags n) }
 {
     let len = hexadecimal_len(n, flags);
     write_digits::<16>(buf, at, prefix_of(flags, b'x'), n, flags.hex_fmt, len)
 }
 
 // Writes n in binary.
-fn write_binary(buf: &mut [u8], at: usize, n: u64, flags: FormattingFlags) -> Written
-    ensures { outcome result buf.new ≡ put_text buf.old at (bin_text flags n) }
+fn write_binary(buf: &mut [u8], at: usize, n: u64, flags: FormattingFlags) -> Result<usize, Error>
+    ensures { outcome (written at result) buf.new ≡ put_text buf.old at (bin_text flags n) }
 {
     let len = binary_len(n, flags);
     write_digits::<2>(buf, at, prefix_of(flags, b'b'), n, flags.hex_fmt, len)
@@ -141,10 +137,10 @@ pub fn write_debug_parts(
     n: u64,
     bits: u64,
     flags: FormattingFlags,
-) -> Written
-    ensures buf_after { outcome result buf.new ≡ put_text buf.old at (debug_parts flags.num_fmt flags is_negative n bits) }
+) -> Result<usize, Error>
+    ensures buf_after { outcome (written at result) buf.new ≡ put_text buf.old at (debug_parts flags.num_fmt flags is_negative n bits) }
     ensures as_value { (k : ℕ) (z : ℤ) → display_text z ≡ cond is_negative (45 ∷ []) [] ++ decimal n → twos_complement k z
-        ≡ bits → outcome result buf.new ≡ write flags buf.old at (integer debug k z) }
+        ≡ bits → outcome (written at result) buf.new ≡ write flags buf.old at (integer debug k z) }
 {
     match flags.num_fmt {
         NumberFormatting::Decimal => write_decimal(buf, at, is_negative, n),

@@ -2,7 +2,8 @@
 use mathlib.Core.Bool.{Bool, true, false, cond}
 use mathlib.Core.Logic.{dite}
 use mathlib.Core.List.{List, [], ◌∷◌, ◌++◌}
-use mathlib.Core.Option.{none, none-ne-some}
+use Rattle.std.specs.Prelude.{None}
+use Rattle.std.proofs.lemmas.Option.{none-some}
 use mathlib.Core.Path.{◌≡◌, sym}
 use Prim.Native.Nat.{ℕ, zero, suc, ◌+◌, ◌/◌, ◌%◌, ◌≤◌, ◌<◌}
 use native.Mathlib.Decide.{dec_lt}
@@ -12,7 +13,7 @@ use lib.Dec.{ltb, eqb}
 use lib.IntN.{ℤ, pos, negsuc}
 use lib.ListN.{take, drop, replicate}
 use borrow.Author.Tests.{le-leb, lt-leb}
-use Rattle.error.specs.declared.Answer.TheVariants.{NotAscii}
+use Rattle.error.specs.declared.Error.TheVariants.{NotAscii}
 use Rattle.formatting.specs.declared.escaping.Escape.{Escape}
 use Rattle.formatting.specs.declared.escaping.Escape.TheVariants.{Backslash}
 use Rattle.formatting.specs.declared.flags.FormattingFlags.{FormattingFlags}
@@ -58,13 +59,13 @@ low-replicate zero a h = nil
 low-replicate (suc n) a h = low h (low-replicate n a h)
 
 -- what passes the ASCII test
-pub low-ascii : (s : List ℕ) (i : ℕ) → ascii_fault (ascii_from i s) ≡ none → Low s
+pub low-ascii : (s : List ℕ) (i : ℕ) → ascii_fault (ascii_from i s) ≡ None → Low s
 unfolding ascii_from
 low-ascii [] i e = nil
 low-ascii (b ∷ s) i e =
     dite (dec_lt b 128)
     (λ h. low h (low-ascii s (i + 1) (rw (le-leb b 127 (omega arith)) at e)))
-    (λ h. absurd (none-ne-some NotAscii (sym (rw (lt-leb b 127 (omega arith)) at e))))
+    (λ h. absurd (none-some NotAscii (sym (rw (lt-leb b 127 (omega arith)) at e))))
 
 -- a property of both branches
 either : {A : Type 0} (P : A → Type 0) (t : Bool) {x y : A} → P x → P y → P (cond t x y)

@@ -10,7 +10,8 @@ use lib.Dec.{leb}
 use lib.ListN.{length, take, length-append}
 use lib.Seq.{take-take, take-append-le, length-take-le}
 use borrow.Author.Tests.{leb-true}
-use Rattle.error.specs.declared.Answer.TheVariants.{Done, NotOnCharBoundary}
+use Rattle.error.specs.declared.Error.TheVariants.{NotOnCharBoundary}
+use Rattle.std.specs.Prelude.{Ok, Err}
 use Rattle.formatting.specs.declared.flags.FormattingFlags.{FormattingFlags}
 use Rattle.utf8.specs.Utf8.{well_formed}
 use Rattle.utils.specs.Text.{is_boundary}
@@ -68,7 +69,7 @@ module _ (b : List ℕ) (p : ℕ) (c : List ℕ) (at : ℕ) (above : p ≤ at) (
   truncate_since n h k = rw (truncates_well_formed c at n within k) (go (well_formed (take (min n at) c)) refl)
     where
       go : (x : Bool) → well_formed (take (min n at) c) ≡ x
-          → Remembered b p (outcome (cond x (record { at = min n at; answer = Done }) (record { at = at; answer = NotOnCharBoundary })) c)
+          → Remembered b p (outcome (cond x (record { at = min n at; answer = Ok tt }) (record { at = at; answer = Err NotOnCharBoundary })) c)
       go true e = ((omega arith, omega arith, same), e)
       go false e = ((above, within, same), k)
 

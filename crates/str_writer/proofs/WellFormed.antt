@@ -2,7 +2,8 @@
 use mathlib.Core.Bool.{Bool, true, false, cond, and-eq-true_iff}
 use mathlib.Core.Logic.{dite}
 use mathlib.Core.List.{List, [], ◌∷◌, ◌++◌}
-use mathlib.Core.Option.{Option, none, some, none-ne-some}
+use Rattle.std.specs.Prelude.{Option, Some, None}
+use Rattle.std.proofs.lemmas.Option.{none-some}
 use mathlib.Core.Path.{◌≡◌, refl, sym, ◌∙◌}
 use Prim.Native.Nat.{ℕ, ◌+◌, ◌-◌, ◌%◌, ◌≤◌}
 use native.Mathlib.Decide.{dec_lt}
@@ -10,8 +11,8 @@ use native.Mathlib.Omega.{arith}
 use lib.ListN.{length, take, length-append}
 use lib.Seq.{take_at, length-take-le}
 use borrow.Author.Tests.{lt-ltb}
-use Rattle.error.specs.declared.Answer.{Answer}
-use Rattle.error.specs.declared.Answer.TheVariants.{BadCursor, NotUtf8, NotAChar, NotOnCharBoundary}
+use Rattle.error.specs.declared.Error.{Error}
+use Rattle.error.specs.declared.Error.TheVariants.{BadCursor, NotUtf8, NotAChar, NotOnCharBoundary}
 use Rattle.formatting.specs.declared.flags.FormattingFlags.{FormattingFlags}
 use Rattle.utf8.specs.Utf8.{is_scalar, well_formed}
 use Rattle.utf8.proofs.Rfc3629.{append, octets_well_formed}
@@ -44,11 +45,11 @@ string_well_formed display t e = e
 string_well_formed debug t e = quoted_well_formed t e
 
 -- a test that meets no fault
-passed : (t : Bool) (a : Answer) → cond t none (some a) ≡ none → t ≡ true
+passed : (t : Bool) (a : Error) → cond t None (Some a) ≡ None → t ≡ true
 passed true a e = refl
-passed false a e = absurd (none-ne-some a (sym e))
+passed false a e = absurd (none-some a (sym e))
 
-pub text_well_formed : (f : FormattingFlags) (v : Value) → input_fault v ≡ none → cut_fault v ≡ none → well_formed (text_of f v) ≡ true
+pub text_well_formed : (f : FormattingFlags) (v : Value) → input_fault v ≡ None → cut_fault v ≡ None → well_formed (text_of f v) ≡ true
 unfolding text_of input_fault cut_fault
 text_well_formed f (integer display k z) e h = ascii_well_formed (low-display z)
 text_well_formed f (integer debug k z) e h = ascii_well_formed (low-debug f k z)
@@ -75,19 +76,19 @@ module _ (b : List ℕ) (at : ℕ) (k : well_formed (take at b) ≡ true) where
       rw (← placed-done b at t h (omega arith), take_at (take at b ++ t) _ (at + length t) m) (append (take at b) t k ∙ e))
 
 -- a cursor that is not past the end
-cursor-fits : (b : List ℕ) (at : ℕ) → cursor_fault b at ≡ none → at ≤ length b
-cursor-fits b at e = dite (dec_lt (length b) at) (λ h. absurd (none-ne-some BadCursor (sym (rw (lt-ltb _ _ h) at e)))) (λ h. omega arith)
+cursor-fits : (b : List ℕ) (at : ℕ) → cursor_fault b at ≡ None → at ≤ length b
+cursor-fits b at e = dite (dec_lt (length b) at) (λ h. absurd (none-some BadCursor (sym (rw (lt-ltb _ _ h) at e)))) (λ h. omega arith)
 
 -- a write is refused, or its text is placed
-module _ (P : Outcome → Type 0) (b : List ℕ) (at : ℕ) (k : (a : Answer) → P (refused a b at)) where
-  unless-either : (x y z : Option Answer) (o : Outcome) → (x ≡ none → y ≡ none → z ≡ none → P o) → P (unless (first_of (x ∷ y ∷ z ∷ [])) b at o)
-  unless-either none none none o g = g refl refl refl
-  unless-either none none (some a) o g = k a
-  unless-either none (some a) z o g = k a
-  unless-either (some a) y z o g = k a
+module _ (P : Outcome → Type 0) (b : List ℕ) (at : ℕ) (k : (a : Error) → P (refused a b at)) where
+  unless-either : (x y z : Option Error) (o : Outcome) → (x ≡ None → y ≡ None → z ≡ None → P o) → P (unless (first_of (x ∷ y ∷ z ∷ [])) b at o)
+  unless-either None None None o g = g refl refl refl
+  unless-either None None (Some a) o g = k a
+  unless-either None (Some a) z o g = k a
+  unless-either (Some a) y z o g = k a
 
   pub write-either : (f : FormattingFlags) (v : Value)
-      → (at ≤ length b → input_fault v ≡ none → cut_fault v ≡ none → P (placed b at (text_of f v))) → P (write f b at v)
+      → (at ≤ length b → input_fault v ≡ None → cut_fault v ≡ None → P (placed b at (text_of f v))) → P (write f b at v)
   unfolding write
   write-either f v g = unless-either (cursor_fault b at) (input_fault v) (cut_fault v) _ (λ x y z. g (cursor-fits b at x) y z)
 

@@ -2,18 +2,18 @@
 ghost use Rattle.std.specs.Prelude.{◌≡◌, ◌-◌, take, eqb};
 ghost use Rattle.std.proofs.Math.ListN as ListN;
 ghost use Rattle.str_writer.specs.Truncate.{start_at, truncated, truncated_utf8};
+ghost use Rattle.str_writer.specs.Write.{written};
 
 use crate::faults::cursor_fault;
-use crate::piece::Written;
-use error::Answer;
+use error::Error;
 use utils::{is_char_boundary, slice_up_to_len};
 
 // A writer that goes on at a cursor.
-pub fn from_custom(buf: &[u8], at: usize) -> Written
-    ensures { result ≡ start_at buf.now at }
+pub fn from_custom(buf: &[u8], at: usize) -> Result<usize, Error>
+    ensures { written at result ≡ start_at buf.now at }
 {
-    let answer = cursor_fault(buf.len(), at);
-    Written { at, answer }
+    cursor_fault(buf.len(), at)?;
+    Ok(at)
 }
 
 // A writer that begins with an empty text.
@@ -55,10 +55,7 @@ pub fn capacity(buf: &[u8]) -> usize
 pub fn remaining_capacity(buf: &[u8], at: usize) -> usize
     ensures { result ≡ ListN.length buf.now - at }
 {
-    if buf.len() < at {
-        return 0;
-    }
-    buf.len() - at
+    buf.len().saturating_sub(at)
 }
 
 // The text: the bytes before the cursor.
@@ -69,48 +66,27 @@ pub fn as_bytes(buf: &[u8], at: usize) -> &[u8]
 }
 
 // truncate for NoEncoding.
-pub fn truncate(buf: &[u8], at: usize, length: usize) -> Written
-    ensures { result ≡ truncated buf.now at length }
+pub fn truncate(buf: &[u8], at: usize, length: usize) -> Result<usize, Error>
+    ensures { written at result ≡ truncated buf.now at length }
 {
-    let fault = cursor_fault(buf.len(), at);
-    if !fault.is_done() {
-        return Written { at, answer: fault };
-    }
+    cursor_fault(buf.len(), at)?;
     if at < length {
-        return Written {
-            at,
-            answer: Answer::Done,
-        };
+        return Ok(at);
     }
-    Written {
-        at: length,
-        answer: Answer::Done,
-    }
+    Ok(length)
 }
 
 // truncate for Utf8Encoding: 3 for a length that is no boundary of the text before the cursor; its end is one.
-pub fn truncate_utf8(buf: &[u8], at: usize, length: usize) -> Written
-    ensures { result ≡ truncated_utf8 buf.now at length }
+pub fn truncate_utf8(buf: &[u8], at: usize, length: usize) -> Result<usize, Error>
+    ensures { written at result ≡ truncated_utf8 buf.now at length }
 {
-    let fault = cursor_fault(buf.len(), at);
-    if !fault.is_done() {
-        return Written { at, answer: fault };
-    }
+    cursor_fault(buf.len(), at)?;
     if length > at {
-        return Written {
-            at,
-            answer: Answer::Done,
-        };
+        return Ok(at);
     }
     let text = as_bytes(buf, at);
     if !is_char_boundary(text, length) {
-        return Written {
-            at,
-            answer: Answer::NotOnCharBoundary,
-        };
+        return Err(Error::NotOnCharBoundary);
     }
-    Written {
-        at: length,
-        answer: Answer::Done,
-    }
+    Ok(length)
 }

@@ -1,21 +1,14 @@
 // A piece of text put at the cursor.
 ghost use Rattle.std.specs.Prelude.{◌≡◌, ◌+◌, ◌≤◌, length};
-ghost use Rattle.str_writer.specs.Write.{outcome, splice};
+ghost use Rattle.str_writer.specs.Write.{outcome, splice, written};
 ghost use Rattle.str_writer.specs.Write.{put as put_text};
 ghost use Rattle.utils.specs.Text.{part};
 ghost use Rattle.char_encoding.specs.Char.{char_display, char_debug};
 
 use crate::faults::piece_fault;
 use char_encoding::{char_to_debug, char_to_display};
-use error::Answer;
+use error::Error;
 use utils::{Range, saturate_range};
-
-// What a write answers, and where the cursor then is.
-#[derive(Clone, Copy)]
-pub struct Written {
-    pub at: usize,
-    pub answer: Answer,
-}
 
 // Copies s, of at most four bytes, store by store: most names and separators are as short, and a
 // call of memcpy costs more than they do.
@@ -42,18 +35,6 @@ fn copy_few(buf: &mut [u8], at: usize, s: &[u8])
     buf[at + 3] = s[3];
 }
 
-// Copies s byte by byte, which the compiler makes one memcpy.
-fn copy_many(buf: &mut [u8], at: usize, s: &[u8])
-    requires { at + length s.now ≤ length buf.old }
-    ensures { buf.new ≡ splice buf.old at s.now }
-{
-    let mut i = 0;
-    while i < s.len() {
-        buf[at + i] = s[i];
-        i += 1;
-    }
-}
-
 // Copies s into buf from at on.
 fn copy_at(buf: &mut [u8], at: usize, s: &[u8])
     requires { at + length s.now ≤ length buf.old }
@@ -63,54 +44,45 @@ fn copy_at(buf: &mut [u8], at: usize, s: &[u8])
         copy_few(buf, at, s);
         return;
     }
-    copy_many(buf, at, s);
+    buf[at..at + s.len()].copy_from_slice(s);
 }
 
 // Writes s at the cursor, or leaves the buffer as it is.
-pub fn put(buf: &mut [u8], at: usize, s: &[u8]) -> Written
-    ensures { outcome result buf.new ≡ put_text buf.old at s.now }
+pub fn put(buf: &mut [u8], at: usize, s: &[u8]) -> Result<usize, Error>
+    ensures { outcome (written at result) buf.new ≡ put_text buf.old at s.now }
 {
-    let fault = piece_fault(buf.len(), at, s.len());
-    if !fault.is_done() {
-        return Written { at, answer: fault };
-    }
+    piece_fault(buf.len(), at, s.len())?;
     copy_at(buf, at, s);
-    Written {
-        at: at + s.len(),
-        answer: Answer::Done,
-    }
+    Ok(at + s.len())
 }
 
 // Writes the bytes of s in the clamped range.
-pub fn put_part(buf: &mut [u8], at: usize, s: &[u8], range: Range) -> Written
-    ensures { outcome result buf.new ≡ put_text buf.old at (part s.now range) }
+pub fn put_part(buf: &mut [u8], at: usize, s: &[u8], range: Range) -> Result<usize, Error>
+    ensures { outcome (written at result) buf.new ≡ put_text buf.old at (part s.now range) }
 {
-    let clamped = saturate_range(s, range);
-    let start = clamped.start;
-    let end = clamped.end;
+    let Range { start, end } = saturate_range(s, range);
     put(buf, at, &s[start..end])
 }
 
 // Writes the octets of c, none where c is no character.
-pub fn put_char(buf: &mut [u8], at: usize, c: u32) -> Written
-    ensures { outcome result buf.new ≡ put_text buf.old at (char_display c) }
+pub fn put_char(buf: &mut [u8], at: usize, c: u32) -> Result<usize, Error>
+    ensures { outcome (written at result) buf.new ≡ put_text buf.old at (char_display c) }
 {
     if c < 0x80 {
-        let one = [c as u8];
-        return put(buf, at, &one);
+        return put(buf, at, &[c as u8]);
     }
-    let e = char_to_display(c);
-    let len = e.len;
-    let encoded = e.encoded;
-    put(buf, at, &encoded[0..len])
+    match char_to_display(c) {
+        Ok(text) => put(buf, at, &text.encoded[..text.len]),
+        Err(_) => put(buf, at, b""),
+    }
 }
 
 // Writes c between marks, nothing where c is no character.
-pub fn put_char_debug(buf: &mut [u8], at: usize, c: u32) -> Written
-    ensures { outcome result buf.new ≡ put_text buf.old at (char_debug c) }
+pub fn put_char_debug(buf: &mut [u8], at: usize, c: u32) -> Result<usize, Error>
+    ensures { outcome (written at result) buf.new ≡ put_text buf.old at (char_debug c) }
 {
-    let e = char_to_debug(c);
-    let len = e.len;
-    let encoded = e.encoded;
-    put(buf, at, &encoded[0..len])
+    match char_to_debug(c) {
+        Ok(text) => put(buf, at, &text.encoded[..text.len]),
+        Err(_) => put(buf, at, b""),
+    }
 }

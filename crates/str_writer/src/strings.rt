@@ -2,77 +2,59 @@
 ghost use Rattle.std.specs.Prelude.{◌≡◌, ◌+◌, ◌≤◌, length, replicate};
 ghost use Rattle.formatting.specs.Flags.{default_flags};
 ghost use Rattle.str_writer.specs.Value.{str, ascii, char, repeated, display, debug, whole};
-ghost use Rattle.str_writer.specs.Write.{outcome, splice, write};
+ghost use Rattle.str_writer.specs.Write.{outcome, splice, write, written};
 
 use crate::faults::{judge_ascii, judge_char, judge_str, piece_fault, range_fault};
-use crate::piece::{Written, put, put_char, put_char_debug, put_part};
-use error::Answer;
+use crate::piece::{put, put_char, put_char_debug, put_part};
+use error::Error;
 use utils::Range;
 
 // Writes a string at the cursor.
-pub fn write_str(buf: &mut [u8], at: usize, s: &[u8]) -> Written
-    ensures { outcome result buf.new ≡ write default_flags buf.old at (str display s.now (whole s.now)) }
+pub fn write_str(buf: &mut [u8], at: usize, s: &[u8]) -> Result<usize, Error>
+    ensures { outcome (written at result) buf.new ≡ write default_flags buf.old at (str display s.now (whole s.now)) }
 {
-    let fault = judge_str(buf.len(), at, s);
-    if !fault.is_done() {
-        return Written { at, answer: fault };
-    }
+    judge_str(buf.len(), at, s)?;
     put(buf, at, s)
 }
 
 // Writes the part of a string in the clamped range at the cursor.
-pub fn write_str_range(buf: &mut [u8], at: usize, s: &[u8], range: Range) -> Written
-    ensures { outcome result buf.new ≡ write default_flags buf.old at (str display s.now range) }
+pub fn write_str_range(buf: &mut [u8], at: usize, s: &[u8], range: Range) -> Result<usize, Error>
+    ensures { outcome (written at result) buf.new ≡ write default_flags buf.old at (str display s.now range) }
 {
-    let fault = judge_str(buf.len(), at, s);
-    if !fault.is_done() {
-        return Written { at, answer: fault };
-    }
-    let cut = range_fault(s, range);
-    if !cut.is_done() {
-        return Written { at, answer: cut };
-    }
+    judge_str(buf.len(), at, s)?;
+    range_fault(s, range)?;
     put_part(buf, at, s, range)
 }
 
 // Writes ASCII text at the cursor.
-pub fn write_ascii(buf: &mut [u8], at: usize, s: &[u8]) -> Written
-    ensures { outcome result buf.new ≡ write default_flags buf.old at (ascii display s.now (whole s.now)) }
+pub fn write_ascii(buf: &mut [u8], at: usize, s: &[u8]) -> Result<usize, Error>
+    ensures { outcome (written at result) buf.new ≡ write default_flags buf.old at (ascii display s.now (whole s.now)) }
 {
     let end = s.len();
     write_ascii_range(buf, at, s, Range { start: 0, end })
 }
 
 // Writes the part of ASCII text in the clamped range at the cursor.
-pub fn write_ascii_range(buf: &mut [u8], at: usize, s: &[u8], range: Range) -> Written
-    ensures { outcome result buf.new ≡ write default_flags buf.old at (ascii display s.now range) }
+pub fn write_ascii_range(buf: &mut [u8], at: usize, s: &[u8], range: Range) -> Result<usize, Error>
+    ensures { outcome (written at result) buf.new ≡ write default_flags buf.old at (ascii display s.now range) }
 {
-    let fault = judge_ascii(buf.len(), at, s);
-    if !fault.is_done() {
-        return Written { at, answer: fault };
-    }
+    judge_ascii(buf.len(), at, s)?;
     put_part(buf, at, s, range)
 }
 
 // Writes a character at the cursor.
-pub fn write_char(buf: &mut [u8], at: usize, c: u32) -> Written
-    ensures { outcome result buf.new ≡ write default_flags buf.old at (char display c) }
+pub fn write_char(buf: &mut [u8], at: usize, c: u32) -> Result<usize, Error>
+    ensures { outcome (written at result) buf.new ≡ write default_flags buf.old at (char display c) }
 {
-    let fault = judge_char(buf.len(), at, c);
-    if !fault.is_done() {
-        return Written { at, answer: fault };
-    }
+    judge_char(buf.len(), at, c)?;
     put_char(buf, at, c)
 }
 
 // Writes a character between quotation marks at the cursor.
-pub fn write_char_debug(buf: &mut [u8], at: usize, c: u32) -> Written
-    ensures { outcome result buf.new ≡ write default_flags buf.old at (char debug c) }
+pub fn write_char_debug(buf: &mut [u8], at: usize, c: u32) -> Result<usize, Error>
+    ensures { outcome (written at result) buf.new ≡ write default_flags buf.old at (char debug c) }
 {
-    let fault = judge_char(buf.len(), at, c);
-    if !fault.is_done() {
-        return Written { at, answer: fault };
-    }
+    judge_char(buf.len(), at, c)?;
     put_char_debug(buf, at, c)
 }
 
@@ -81,24 +63,14 @@ fn fill_at(buf: &mut [u8], at: usize, b: u8, n: usize)
     requires { at + n ≤ length buf.old }
     ensures { buf.new ≡ splice buf.old at (replicate n b) }
 {
-    let mut i = 0;
-    while i < n {
-        buf[at + i] = b;
-        i += 1;
-    }
+    buf[at..at + n].fill(b);
 }
 
 // Writes c n times, without its top bit.
-pub fn write_ascii_repeated(buf: &mut [u8], at: usize, c: u8, n: usize) -> Written
-    ensures { outcome result buf.new ≡ write default_flags buf.old at (repeated c n) }
+pub fn write_ascii_repeated(buf: &mut [u8], at: usize, c: u8, n: usize) -> Result<usize, Error>
+    ensures { outcome (written at result) buf.new ≡ write default_flags buf.old at (repeated c n) }
 {
-    let fault = piece_fault(buf.len(), at, n);
-    if !fault.is_done() {
-        return Written { at, answer: fault };
-    }
+    piece_fault(buf.len(), at, n)?;
     fill_at(buf, at, c % 128, n);
-    Written {
-        at: at + n,
-        answer: Answer::Done,
-    }
+    Ok(at + n)
 }

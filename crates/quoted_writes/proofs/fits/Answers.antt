@@ -1,9 +1,9 @@
-use mathlib.Core.Path.{refl, sym}
+use mathlib.Core.Path.{sym}
 use native.Mathlib.Omega.{arith}
 use lib.ListN.{length}
 use borrow.Author.Tests.{le-leb, lt-leb}
 use Rattle.formatting.specs.Escape.{quoted}
-use Rattle.quoted_writes.proofs.Quoting.{escaped_long, quoted-length, count-above, count-within}
+use Rattle.quoted_writes.proofs.Quoting.{escaped_long, quoted-length}
 use Rattle.quoted_writes.proofs.fits.Goals as goal
 
 pub returns-then-room-s : goal.returns-then-room-s
@@ -11,13 +11,3 @@ returns-then-room-s c = let a = c.args in sym (lt-leb (length (quoted a.s.now)) 
 
 pub returns-then-s-room : goal.returns-then-s-room
 returns-then-s-room c = let a = c.args in sym (le-leb (length (quoted a.s.now)) a.room (omega (arith, quoted-length a.s.now, (escaped_long a.s.now).1)))
-
-pub returns-then-len-eq0 : goal.returns-then-len-eq0
-returns-then-len-eq0 c = let q = c.compute_utf8_debug_len-quoted in
-    let a = c.args in
-    sym (lt-leb (length (quoted a.s.now)) a.room (omega (arith, count-above a.s.now q.result q.ensures c.if-len-eq0.true)))
-
-pub returns : goal.returns
-returns c = let q = c.compute_utf8_debug_len-quoted in
-    let a = c.args in
-    rw (count-within a.s.now q.result q.ensures c.if-len-eq0.false) refl

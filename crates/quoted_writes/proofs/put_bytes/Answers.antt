@@ -1,47 +1,20 @@
-use Prim.Native.Nat.{◌+◌}
 use native.Mathlib.Omega.{arith}
-use Rattle.quoted_writes.proofs.Quoting.{left-room, Left, left-start, left-run, left-run-room, left_byte, left-none}
+use lib.ListN.{get_or, take}
+use Rattle.formatting.specs.Escape.{escaped}
+use Rattle.quoted_writes.proofs.Quoting.{byte_text, escaped-more, more-room, writes-none, writes-append}
 use Rattle.quoted_writes.proofs.put_bytes.Goals as goal
 
-pub loop-i-init : goal.loop-i-init
-loop-i-init c = let a = c.args in left-start a.buf.now a.w a.s.now c.requires
-
-pub slice_bounds-put_bare-count : goal.slice_bounds-put_bare-count
-slice_bounds-put_bare-count c = c.loop-i.invariant.within
-
-pub put_bare-n-requires : goal.put_bare-n-requires
-put_bare-n-requires c = left-run-room c.loop-i.invariant
-
-pub shape_of-buf : goal.shape_of-buf
-shape_of-buf c = c.loop-i.invariant.same
-
-pub returns : goal.returns
-returns c = left-none c.loop-i.invariant c.loop-i-test.false
-
-pub returns-then-i-s : goal.returns-then-i-s
-returns-then-i-s c =
-    let a = c.args in
-    let b = c.put_bare-n in
-    -- behind the bytes without an escape
-    let r : Left a.buf.now a.w a.s.now b.new.buf (c.loop-i.at + b.result) (c.loop-i.i + b.result) =
-    left-run c.loop-i.invariant b.result _ b.ensures in
-    left-none r (omega (arith, c.if-i-s.true))
+pub loop-b-init : goal.loop-b-init
+loop-b-init c = let a = c.args in writes-none a.buf.now a.w
 
 pub put_escape-at-requires : goal.put_escape-at-requires
-put_escape-at-requires c =
-    let a = c.args in
-    let b = c.put_bare-n in
-    -- behind the bytes without an escape
-    let r : Left a.buf.now a.w a.s.now b.new.buf (c.loop-i.at + b.result) (c.loop-i.i + b.result) =
-    left-run c.loop-i.invariant b.result _ b.ensures in
-    left-room r (omega (arith, r.within, c.if-i-s.false))
+put_escape-at-requires c = let l = c.loop-b in omega (arith, l.invariant.0, more-room c.args.s.now l.b-index (omega arith))
 
-pub loop-i-preserved : goal.loop-i-preserved
-loop-i-preserved c =
-    let a = c.args in
-    let b = c.put_bare-n in
-    -- behind the bytes without an escape
-    let r : Left a.buf.now a.w a.s.now b.new.buf (c.loop-i.at + b.result) (c.loop-i.i + b.result) =
-    left-run c.loop-i.invariant b.result _ b.ensures in
-    let e = c.put_escape-at.ensures in
-    rw e.0 (left_byte r _ (omega (arith, r.within, c.if-i-s.false)) e.1)
+pub loop-b-preserved : goal.loop-b-preserved
+loop-b-preserved c = let a = c.args in
+    let l = c.loop-b in
+    let p = c.put_escape-at in
+    let s = a.s.now in
+    let r = more-room s l.b-index (omega arith) in
+    rw (← escaped-more s l.b-index (omega arith))
+    (writes-append a.buf.now a.w (escaped (take l.b-index s)) (byte_text (get_or s l.b-index 0)) l.at p.result l.buf p.new.buf (omega arith) l.invariant p.ensures)

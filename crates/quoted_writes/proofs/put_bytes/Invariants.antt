@@ -1,10 +1,7 @@
-use Prim.Native.Nat.{◌-◌}
-use lib.ListN.{length}
-use Rattle.quoted_writes.proofs.Quoting.{Left}
+use lib.ListN.{take}
+use Rattle.formatting.specs.Escape.{escaped}
+use Rattle.quoted_writes.specs.Marked.{Writes}
 use Rattle.quoted_writes.proofs.put_bytes.Given as goal
 
-abbrev pub invariant-loop-i : goal.invariant-loop-i
-invariant-loop-i l = Left l.initial.buf l.w l.s l.buf l.at l.i
-
-abbrev pub decreases-loop-i : goal.decreases-loop-i
-decreases-loop-i l = length l.s - l.i
+abbrev pub invariant-loop-b : goal.invariant-loop-b
+invariant-loop-b l = Writes l.initial.buf l.w (escaped (take l.b-index l.s)) l.at l.buf

@@ -1,42 +1,49 @@
+use mathlib.Core.Path.{◌≡◌, sym, ap, ◌∙◌}
 use Prim.Native.Nat.{◌+◌}
-use Rattle.quoted_writes.proofs.Quoting.{Left, left-start, left-run, left-run-room, left-part, left-part-room, left-none}
+use native.Mathlib.Omega.{arith}
+use lib.ListN.{length, take, drop}
+use lib.Seq.{length-take-le}
+use Rattle.formatting.specs.Escape.{escaped}
+use Rattle.quoted_writes.specs.Marked.{Writes}
+use Rattle.quoted_writes.proofs.Quoting.{bare-text, left-start, left-room, left-block-room, left-block, left-end}
 use Rattle.quoted_writes.proofs.put_escaped.Goals as goal
 
-pub loop-i-init : goal.loop-i-init
-loop-i-init c = let a = c.args in left-start a.buf.now a.w a.s.now c.requires
+pub loop-block-init : goal.loop-block-init
+loop-block-init c = let a = c.args in left-start a.buf.now a.w a.s.now
 
-pub slice_bounds-put_blocks-count : goal.slice_bounds-put_blocks-count
-slice_bounds-put_blocks-count c = c.loop-i.invariant.within
-
-pub put_blocks-n-requires : goal.put_blocks-n-requires
-put_blocks-n-requires c = left-run-room c.loop-i.invariant
-
-pub slice_bounds-put_bytes-count : goal.slice_bounds-put_bytes-count
-slice_bounds-put_bytes-count c = c.block_end-to.ensures.0
-
-pub shape_of-buf : goal.shape_of-buf
-shape_of-buf c = c.loop-i.invariant.same
-
-pub returns : goal.returns
-returns c = left-none c.loop-i.invariant c.loop-i-test.false
+pub put_block-requires : goal.put_block-requires
+put_block-requires c =
+    let l = c.loop-block in
+    let e : c.in-Some.block.now ≡ take 16 l.rest.now = c.in-Some.ensures.cases.0 in
+    let plain = bare-text c.in-Some.block.now (sym c.is_plain.ensures ∙ c.if-is_plain.true) in
+    omega (arith, ap length plain, ap length e, length-take-le 16 l.rest.now (omega (arith, c.in-Some.ensures.cases.2)), rw (← e) at (left-block-room c.requires l.invariant 16))
 
 pub put_bytes-at-requires : goal.put_bytes-at-requires
 put_bytes-at-requires c =
-    let a = c.args in
-    let b = c.put_blocks-n in
-    -- behind the blocks without an escape
-    let r : Left a.buf.now a.w a.s.now b.new.buf (c.loop-i.at + b.result) (c.loop-i.i + b.result) =
-    left-run c.loop-i.invariant b.result _ b.ensures in
-    let e = c.block_end-to in
-    left-part-room r e.result e.ensures.0
+    let l = c.loop-block in
+    let e : c.in-Some.block.now ≡ take 16 l.rest.now = c.in-Some.ensures.cases.0 in
+    omega (arith, rw (← e) at (left-block-room c.requires l.invariant 16))
 
-pub loop-i-preserved : goal.loop-i-preserved
-loop-i-preserved c =
-    let a = c.args in
-    let b = c.put_blocks-n in
-    -- behind the blocks without an escape
-    let r : Left a.buf.now a.w a.s.now b.new.buf (c.loop-i.at + b.result) (c.loop-i.i + b.result) =
-    left-run c.loop-i.invariant b.result _ b.ensures in
-    let t = c.block_end-to in
-    let e = c.put_bytes-at.ensures in
-    rw e.0 (left-part r t.result _ t.ensures.0 t.ensures.1 e.1)
+pub loop-block-preserved-then-is_plain : goal.loop-block-preserved-then-is_plain
+loop-block-preserved-then-is_plain c =
+    let l = c.loop-block in
+    let p = c.put_block in
+    let e : c.in-Some.block.now ≡ take 16 l.rest.now = c.in-Some.ensures.cases.0 in
+    let d : c.in-Some.behind.now ≡ drop 16 l.rest.now = c.in-Some.ensures.cases.1 in
+    let plain = bare-text c.in-Some.block.now (sym c.is_plain.ensures ∙ c.if-is_plain.true) in
+    let k : Writes l.buf l.at (escaped c.in-Some.block.now) (l.at + 16) p.new.buf = rw plain (omega (arith, ap length e, length-take-le 16 l.rest.now (omega (arith, c.in-Some.ensures.cases.2))), p.ensures) in
+    rw d (left-block c.requires l.invariant 16 (l.at + 16) p.new.buf (rw (← e) k))
+
+pub loop-block-preserved : goal.loop-block-preserved
+loop-block-preserved c =
+    let l = c.loop-block in
+    let p = c.put_bytes-at in
+    let e : c.in-Some.block.now ≡ take 16 l.rest.now = c.in-Some.ensures.cases.0 in
+    let d : c.in-Some.behind.now ≡ drop 16 l.rest.now = c.in-Some.ensures.cases.1 in
+    rw d (left-block c.requires l.invariant 16 p.result p.new.buf (rw (← e) p.ensures))
+
+pub put_bytes-requires : goal.put_bytes-requires
+put_bytes-requires c = omega (arith, left-room c.requires c.loop-block.invariant)
+
+pub returns : goal.returns
+returns c = let p = c.put_bytes in left-end c.requires c.loop-block.invariant p.result p.new.buf p.ensures

@@ -1,10 +1,9 @@
-use Prim.Native.Nat.{◌-◌}
 use lib.ListN.{length}
 use Rattle.quoted_writes.proofs.Quoting.{Left}
 use Rattle.quoted_writes.proofs.put_escaped.Given as goal
 
-abbrev pub invariant-loop-i : goal.invariant-loop-i
-invariant-loop-i l = Left l.initial.buf l.w l.s l.buf l.at l.i
+abbrev pub invariant-loop-block : goal.invariant-loop-block
+invariant-loop-block l = Left l.initial.buf l.w l.s l.buf l.at l.rest
 
-abbrev pub decreases-loop-i : goal.decreases-loop-i
-decreases-loop-i l = length l.s - l.i
+abbrev pub decreases-loop-block : goal.decreases-loop-block
+decreases-loop-block l = length l.rest

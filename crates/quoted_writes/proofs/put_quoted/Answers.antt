@@ -1,66 +1,34 @@
-use mathlib.Core.Path.{refl, sym, ap, ◌∙◌}
-use Prim.Native.Nat.{◌+◌, ◌≤◌}
+use mathlib.Core.Path.{refl, sym, ◌∙◌}
+use Prim.Native.Nat.{◌-◌, ◌≤◌}
 use native.Mathlib.Omega.{arith}
 use lib.ListN.{length}
+use borrow.Author.Tests.{leb-true, leb-false}
 use Rattle.formatting.specs.Escape.{quoted}
-use Rattle.str_writer.specs.declared.piece.Written.{Written}
-use Rattle.str_writer.specs.Write.{outcome}
-use Rattle.str_writer.proofs.Splice.{splice-nil}
-use Rattle.str_writer.proofs.Outcomes.{put-placed}
-use Rattle.str_writer.proofs.Judging.{cursor-fits, put-cursor}
-use Rattle.quoted_writes.proofs.Quoting.{behind-none, behind-some}
+use Rattle.str_writer.proofs.Outcomes.{put-short}
+use Rattle.str_writer.proofs.Judging.{handed, met, cursor-fits, put-cursor, put-met}
+use Rattle.quoted_writes.proofs.Quoting.{escaped_long, quoted-length, writes_before, put-writes}
 use Rattle.quoted_writes.proofs.put_quoted.Goals as goal
 
-pub returns-then-not-is_done : goal.returns-then-not-is_done
-returns-then-not-is_done c = let a = c.args in
-    put-cursor a.buf.now a.at (quoted a.s.now) _ (c.cursor_fault-fault.ensures a.buf.now refl) (sym c.is_done.ensures ∙ c.if-not-is_done.true)
+pub returns-in_err-cursor_fault : goal.returns-in_err-cursor_fault
+returns-in_err-cursor_fault c = let a = c.args in
+    let t = quoted a.s.now in
+    let e = met _ _ (c.in_err-cursor_fault.ensures a.buf.now refl) in
+    rw (handed _ _ c.from_residual.ensures.1) (put-met a.buf.now a.at t _ (put-cursor a.buf.now a.at t _ e))
 
-pub overflow_sub-buf : goal.overflow_sub-buf
-overflow_sub-buf c =
-    let a = c.args in
-    -- past the test of the cursor it is in the buffer
-    let fits : a.at ≤ length a.buf.now =
-    cursor-fits a.buf.now a.at _ (c.cursor_fault-fault.ensures a.buf.now refl) (sym c.is_done.ensures ∙ c.if-not-is_done.false) in
-    fits
+pub returns-then-room-ge-SHORT_ROOM : goal.returns-then-room-ge-SHORT_ROOM
+returns-then-room-ge-SHORT_ROOM c = let a = c.args in
+    let p = c.put_short in
+    let h : a.at ≤ length a.buf.now = cursor-fits a.buf.now a.at (met _ _ (c.in_ok-cursor_fault.ensures a.buf.now refl)) in
+    put-writes a.buf.now a.at (quoted a.s.now) p.result p.new.buf h (omega (arith, quoted-length a.s.now, (escaped_long a.s.now).1)) p.ensures
 
-pub put_short-requires : goal.put_short-requires
-put_short-requires c =
-    let a = c.args in
-    -- past the test of the cursor it is in the buffer
-    let fits : a.at ≤ length a.buf.now =
-    cursor-fits a.buf.now a.at _ (c.cursor_fault-fault.ensures a.buf.now refl) (sym c.is_done.ensures ∙ c.if-not-is_done.false) in
-    (fits, omega arith)
-
-pub returns-then-buf-at-ge-SHORT_ROOM : goal.returns-then-buf-at-ge-SHORT_ROOM
-returns-then-buf-at-ge-SHORT_ROOM c =
-    let a = c.args in
-    -- past the test of the cursor it is in the buffer
-    let fits : a.at ≤ length a.buf.now =
-    cursor-fits a.buf.now a.at _ (c.cursor_fault-fault.ensures a.buf.now refl) (sym c.is_done.ensures ∙ c.if-not-is_done.false) in
-    c.put_short.ensures ∙ put-placed a.buf.now a.at (quoted a.s.now) fits
-
-pub put_rest-end-requires : goal.put_rest-end-requires
-put_rest-end-requires c =
-    let a = c.args in
-    -- past the test of the cursor it is in the buffer
-    let fits : a.at ≤ length a.buf.now =
-    cursor-fits a.buf.now a.at _ (c.cursor_fault-fault.ensures a.buf.now refl) (sym c.is_done.ensures ∙ c.if-not-is_done.false) in
-    (fits, omega arith, refl, splice-nil a.buf.now (a.at + 1))
-
-pub returns-then-end-eq0 : goal.returns-then-end-eq0
-returns-then-end-eq0 c =
-    let a = c.args in
-    -- past the test of the cursor it is in the buffer
-    let fits : a.at ≤ length a.buf.now =
-    cursor-fits a.buf.now a.at _ (c.cursor_fault-fault.ensures a.buf.now refl) (sym c.is_done.ensures ∙ c.if-not-is_done.false) in
-    let e = c.put_rest-end in
-    ap (λ (w : Written). outcome w e.new.buf) (behind-none a.at e.result c.if-end-eq0.true) ∙ e.ensures ∙ put-placed a.buf.now a.at (quoted a.s.now) fits
+pub returns-then-not-fits : goal.returns-then-not-fits
+returns-then-not-fits c = let a = c.args in
+    let h : a.at ≤ length a.buf.now = cursor-fits a.buf.now a.at (met _ _ (c.in_ok-cursor_fault.ensures a.buf.now refl)) in
+    put-short a.buf.now a.at (quoted a.s.now) h (leb-false _ _ (sym c.fits.ensures ∙ c.if-not-fits.true))
 
 pub returns : goal.returns
-returns c =
-    let a = c.args in
-    -- past the test of the cursor it is in the buffer
-    let fits : a.at ≤ length a.buf.now =
-    cursor-fits a.buf.now a.at _ (c.cursor_fault-fault.ensures a.buf.now refl) (sym c.is_done.ensures ∙ c.if-not-is_done.false) in
-    let e = c.put_rest-end in
-    ap (λ (w : Written). outcome w e.new.buf) (behind-some a.at e.result c.if-end-eq0.false) ∙ e.ensures ∙ put-placed a.buf.now a.at (quoted a.s.now) fits
+returns c = let a = c.args in
+    let p = c.put_rest in
+    let h : a.at ≤ length a.buf.now = cursor-fits a.buf.now a.at (met _ _ (c.in_ok-cursor_fault.ensures a.buf.now refl)) in
+    let r : length (quoted a.s.now) ≤ length a.buf.now - a.at = leb-true _ _ (sym c.fits.ensures ∙ c.if-not-fits.false) in
+    put-writes a.buf.now a.at (quoted a.s.now) p.result p.new.buf h r (writes_before a.buf.now a.at 34 _ p.result p.new.buf (omega (arith, quoted-length a.s.now)) p.ensures)

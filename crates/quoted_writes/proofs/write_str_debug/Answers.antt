@@ -1,17 +1,14 @@
-use mathlib.Core.Path.{refl, sym, ◌∙◌}
+use mathlib.Core.Path.{refl, ◌∙◌}
 use Rattle.formatting.specs.Flags.{default_flags}
 use Rattle.str_writer.specs.Value.{str, debug, whole}
-use Rattle.str_writer.proofs.Judging.{judged-whole-str, write-met, whole-emit}
+use Rattle.str_writer.proofs.Judging.{handed, met, write-met, judged-met, whole-emit}
 use Rattle.quoted_writes.proofs.write_str_debug.Goals as goal
 
-pub returns-then-not-is_done : goal.returns-then-not-is_done
-returns-then-not-is_done c = let a = c.args in
-    let s = a.s.now in
-    let e = judged-whole-str a.buf.now a.at debug s _ (c.judge_str-fault.ensures a.buf.now refl debug (whole s)) in
-    write-met default_flags a.buf.now a.at (str debug s (whole s)) _ e (sym c.is_done.ensures ∙ c.if-not-is_done.true)
+pub returns-in_err-judge_str : goal.returns-in_err-judge_str
+returns-in_err-judge_str c = let a = c.args in
+    let v = str debug a.s.now (whole a.s.now) in
+    rw (handed _ _ c.from_residual.ensures.1) (write-met a.buf.now a.at v default_flags _ (judged-met a.buf.now a.at v _ (met _ _ (c.in_err-judge_str.ensures a.buf.now refl debug _))))
 
 pub returns : goal.returns
 returns c = let a = c.args in
-    let s = a.s.now in
-    let e = judged-whole-str a.buf.now a.at debug s _ (c.judge_str-fault.ensures a.buf.now refl debug (whole s)) in
-    c.put_quoted.ensures ∙ whole-emit default_flags a.buf.now a.at _ debug s e (sym c.is_done.ensures ∙ c.if-not-is_done.false)
+    c.put_quoted.ensures ∙ whole-emit default_flags a.buf.now a.at debug a.s.now (met _ _ (c.in_ok-judge_str.ensures a.buf.now refl debug _))

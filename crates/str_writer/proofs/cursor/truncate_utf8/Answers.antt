@@ -1,42 +1,22 @@
-use mathlib.Core.Bool.{Bool, true, false, cond}
-use mathlib.Core.List.{List}
-use mathlib.Core.Path.{◌≡◌, refl, sym, ap, ◌∙◌}
-use Prim.Native.Nat.{ℕ, ◌≤◌}
-use lib.ListN.{length}
-use Rattle.error.specs.declared.Answer.TheVariants.{Done, NotOnCharBoundary}
-use Rattle.utils.specs.Text.{is_boundary}
-use Rattle.str_writer.specs.Truncate.{truncated_utf8}
-use Rattle.str_writer.proofs.Judging.{cursor-fits}
-use Rattle.str_writer.proofs.Truncation.{utf8_met, utf8_above, utf8_tested}
+use mathlib.Core.Path.{refl, sym, ◌∙◌}
+use Rattle.str_writer.proofs.Judging.{handed, met, cursor-fits}
+use Rattle.str_writer.proofs.Truncation.{utf8_met, utf8_above, utf8_cut, utf8_done}
 use Rattle.str_writer.proofs.cursor.truncate_utf8.Goals as goal
 
-pub returns-then-not-is_done : goal.returns-then-not-is_done
-returns-then-not-is_done c = let a = c.args in
-    utf8_met a.buf.now a.at a.length _ (c.cursor_fault-fault.ensures a.buf.now refl) (sym c.is_done.ensures ∙ c.if-not-is_done.true)
+pub returns-in_err-cursor_fault : goal.returns-in_err-cursor_fault
+returns-in_err-cursor_fault c = let a = c.args in
+    rw (handed _ _ c.from_residual.ensures.1) (utf8_met a.buf.now a.at _ (met _ _ (c.in_err-cursor_fault.ensures a.buf.now refl)) a.length)
 
 pub returns-then-length-at : goal.returns-then-length-at
-returns-then-length-at c =
-    let fits : c.args.at ≤ length c.args.buf.now = let a = c.args in
-    cursor-fits a.buf.now a.at _ (c.cursor_fault-fault.ensures a.buf.now refl) (sym c.is_done.ensures ∙ c.if-not-is_done.false) in
-    let a = c.args in
-    utf8_above a.buf.now a.at a.length fits c.if-length-at.true
+returns-then-length-at c = let a = c.args in
+    utf8_above a.buf.now a.at a.length (cursor-fits a.buf.now a.at (met _ _ (c.in_ok-cursor_fault.ensures a.buf.now refl))) c.if-length-at.true
 
 pub returns-then-not-is_char_boundary : goal.returns-then-not-is_char_boundary
-returns-then-not-is_char_boundary c =
-    let fits : c.args.at ≤ length c.args.buf.now = let a = c.args in
-    cursor-fits a.buf.now a.at _ (c.cursor_fault-fault.ensures a.buf.now refl) (sym c.is_done.ensures ∙ c.if-not-is_done.false) in
-    let decided : (x : Bool) → c.is_char_boundary.result ≡ x → let a = c.args in
-    cond x (record { at = a.length; answer = Done }) (record { at = a.at; answer = NotOnCharBoundary }) ≡ truncated_utf8 a.buf.now a.at a.length = λ x e. let a = c.args in
-    utf8_tested a.buf.now a.at a.length fits c.if-length-at.false x
-    (ap (λ (t : List ℕ). is_boundary t a.length) (sym c.as_bytes-text.ensures) ∙ sym c.is_char_boundary.ensures ∙ e) in
-    decided false (c.if-not-is_char_boundary.true)
+returns-then-not-is_char_boundary c = let a = c.args in
+    let h = cursor-fits a.buf.now a.at (met _ _ (c.in_ok-cursor_fault.ensures a.buf.now refl)) in
+    utf8_cut a.buf.now a.at a.length h c.if-length-at.false (rw c.as_bytes-text.ensures at (sym c.is_char_boundary.ensures ∙ c.if-not-is_char_boundary.true))
 
 pub returns : goal.returns
-returns c =
-    let fits : c.args.at ≤ length c.args.buf.now = let a = c.args in
-    cursor-fits a.buf.now a.at _ (c.cursor_fault-fault.ensures a.buf.now refl) (sym c.is_done.ensures ∙ c.if-not-is_done.false) in
-    let decided : (x : Bool) → c.is_char_boundary.result ≡ x → let a = c.args in
-    cond x (record { at = a.length; answer = Done }) (record { at = a.at; answer = NotOnCharBoundary }) ≡ truncated_utf8 a.buf.now a.at a.length = λ x e. let a = c.args in
-    utf8_tested a.buf.now a.at a.length fits c.if-length-at.false x
-    (ap (λ (t : List ℕ). is_boundary t a.length) (sym c.as_bytes-text.ensures) ∙ sym c.is_char_boundary.ensures ∙ e) in
-    decided true (c.if-not-is_char_boundary.false)
+returns c = let a = c.args in
+    let h = cursor-fits a.buf.now a.at (met _ _ (c.in_ok-cursor_fault.ensures a.buf.now refl)) in
+    utf8_done a.buf.now a.at a.length h c.if-length-at.false (rw c.as_bytes-text.ensures at (sym c.is_char_boundary.ensures ∙ c.if-not-is_char_boundary.false))

@@ -1,27 +1,13 @@
-use mathlib.Core.Path.{sym, ap, ◌∙◌}
+use mathlib.Core.Path.{◌∙◌}
+use Prim.Native.Nat.{ℕ}
 use lib.ListN.{replicate, length-replicate}
-use Prim.Native.Nat.{ℕ, ◌≤◌}
-use Rattle.str_writer.specs.Write.{Outcome}
-use Rattle.str_writer.proofs.Judging.{cursor-fits, put-cursor}
+use Rattle.str_writer.proofs.Judging.{handed, met, cursor-fits, put-cursor}
 use Rattle.str_writer.proofs.faults.piece_fault.Goals as goal
 
-pub returns-then-not-is_done : goal.returns-then-not-is_done
-returns-then-not-is_done c = λ b t e k.
-    ap (λ (o : Outcome). o.written.answer) (put-cursor b c.args.at t _ (c.cursor_fault-fault.ensures b e) (sym c.is_done.ensures ∙ c.if-not-is_done.true))
+pub returns-in_err-cursor_fault : goal.returns-in_err-cursor_fault
+returns-in_err-cursor_fault c = λ b t e k. handed _ _ c.from_residual.ensures.1 ∙ put-cursor b c.args.at t _ (met _ _ (c.in_err-cursor_fault.ensures b e))
 
 pub overflow_sub-len : goal.overflow_sub-len
 overflow_sub-len c =
-    let fits : c.args.at ≤ c.args.len = let n = c.args.len in
-    let e = length-replicate {A = ℕ} n 0 in
-    rw e at (cursor-fits (replicate n 0) c.args.at _ (c.cursor_fault-fault.ensures (replicate n 0) e) (sym c.is_done.ensures ∙ c.if-not-is_done.false)) in
-    fits
-
-pub returns : goal.returns
-returns c =
-    let fits : c.args.at ≤ c.args.len = let n = c.args.len in
-    let e = length-replicate {A = ℕ} n 0 in
-    rw e at (cursor-fits (replicate n 0) c.args.at _ (c.cursor_fault-fault.ensures (replicate n 0) e) (sym c.is_done.ensures ∙ c.if-not-is_done.false)) in
-    λ b t e k.
-    let a = c.args in
-    let h = fits in
-    c.room_fault.ensures b t a.at (rw e h) (rw e) k
+    let e = length-replicate {A = ℕ} c.args.len 0 in
+    rw e at (cursor-fits (replicate c.args.len 0) c.args.at (met _ _ (c.in_ok-cursor_fault.ensures _ e)))
