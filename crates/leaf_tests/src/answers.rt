@@ -1,28 +1,30 @@
 // Answers.
 use crate::printed::Printed;
-use error::Answer;
+use error::{Error, answer_number};
 
-// The answer of a name.
-fn answer_of(name: &[u8]) -> Option<Answer> {
+// The error of a name.
+fn error_of(name: &[u8]) -> Option<Error> {
     match name {
-        b"Done" => Some(Answer::Done),
-        b"NotEnoughSpace" => Some(Answer::NotEnoughSpace),
-        b"NotAscii" => Some(Answer::NotAscii),
-        b"NotOnCharBoundary" => Some(Answer::NotOnCharBoundary),
-        b"NotUtf8" => Some(Answer::NotUtf8),
-        b"NotAChar" => Some(Answer::NotAChar),
-        b"CountTooLarge" => Some(Answer::CountTooLarge),
-        b"TooDeep" => Some(Answer::TooDeep),
-        b"WrongCall" => Some(Answer::WrongCall),
-        b"BadCursor" => Some(Answer::BadCursor),
+        b"NotEnoughSpace" => Some(Error::NotEnoughSpace),
+        b"NotAscii" => Some(Error::NotAscii),
+        b"NotOnCharBoundary" => Some(Error::NotOnCharBoundary),
+        b"NotUtf8" => Some(Error::NotUtf8),
+        b"NotAChar" => Some(Error::NotAChar),
+        b"CountTooLarge" => Some(Error::CountTooLarge),
+        b"TooDeep" => Some(Error::TooDeep),
+        b"WrongCall" => Some(Error::WrongCall),
+        b"BadCursor" => Some(Error::BadCursor),
         _ => None,
     }
 }
 
 // `answer,NAME`: the number of the answer.
 pub(crate) fn put_answer(name: &[u8], out: &mut Printed) -> Option<()> {
-    let answer = answer_of(name)?;
+    let answer = match name {
+        b"Done" => Ok(()),
+        _ => Err(error_of(name)?),
+    };
     out.bytes(name);
-    out.template(b": %\n", u64::from(answer.number()), 0);
+    out.template(b": %\n", u64::from(answer_number(answer)), 0);
     Some(())
 }

@@ -28,17 +28,17 @@ impl<'a> Printed<'a> {
 
     // Lays bytes as they are.
     pub(crate) fn bytes(&mut self, s: &[u8]) {
-        self.len = put(&mut *self.buf, self.len, s).at;
+        self.len = put(&mut *self.buf, self.len, s).unwrap_or(self.len);
     }
 
     // Lays bytes in hexadecimal.
     pub(crate) fn pairs(&mut self, s: &[u8]) {
-        self.len = put_hex(&mut *self.buf, self.len, s).at;
+        self.len = put_hex(&mut *self.buf, self.len, s).unwrap_or(self.len);
     }
 
     // Lays a number in decimal.
     fn decimal(&mut self, n: u64) {
-        self.len = write_display(&mut *self.buf, self.len, n).at;
+        self.len = write_display(&mut *self.buf, self.len, n).unwrap_or(self.len);
     }
 
     // Lays a text with a number for each %: `first` for the first one, then `later`.

@@ -1,9 +1,10 @@
 // Texts: the UTF-8 and the ASCII test, boundaries, ranges, the lengths of quoted strings.
 use crate::printed::Printed;
-use ascii_str::AsciiStr;
+use ascii_str::check_ascii;
+use error::Error;
 use fields::{first_field, from_hex, later_fields, number, split_field};
 use formatting::bit;
-use pwrapper::{DebugLen, compute_utf8_debug_len, compute_utf8_debug_len_in_range};
+use pwrapper::{compute_utf8_debug_len, compute_utf8_debug_len_in_range};
 use utf8::is_utf8;
 use utils::{Range, is_char_boundary, saturate_range, slice_up_to_len};
 
@@ -25,14 +26,16 @@ fn put_utf8(s: &[u8], out: &mut Printed) {
 
 // `ascii,HEX`: the answer, and where the first byte above 127 is.
 fn put_ascii(s: &[u8], out: &mut Printed) {
-    let checked = AsciiStr::new(s);
-    let answer = checked.answer();
-    let n = u64::from(answer.number());
     out.pairs(s);
-    match checked {
-        AsciiStr::Ascii => out.template(b": %\n", n, 0),
-        AsciiStr::NotAsciiError { invalid_from } => {
-            out.template(b": % from %\n", n, invalid_from as u64);
+    match check_ascii(s) {
+        Ok(()) => out.template(b": 0\n", 0, 0),
+        Err(error) => {
+            let answer = u8::from(Error::from(error));
+            out.template(
+                b": % from %\n",
+                u64::from(answer),
+                error.invalid_from as u64,
+            );
         }
     }
 }
@@ -56,10 +59,12 @@ fn put_clamped(s: &[u8], r: Range, out: &mut Printed) {
     out.bytes(b"\n");
 }
 
-// An answer and a length, in a text.
-fn put_len(d: DebugLen, text: &[u8], out: &mut Printed) {
-    let answer = d.answer;
-    out.template(text, u64::from(answer.number()), d.len as u64);
+// An answer and a length, 0 where there is none, in a text.
+fn put_len(counted: Result<usize, Error>, text: &[u8], out: &mut Printed) {
+    match counted {
+        Ok(len) => out.template(text, 0, len as u64),
+        Err(error) => out.template(text, u64::from(u8::from(error)), 0),
+    }
 }
 
 // `quoted,HEX,START,END`: the answer and the length of the text quoted, and of a range of it.

@@ -9,7 +9,7 @@ pub(crate) fn given_call(rest: &[u8], out: &mut Printed) -> Option<()> {
     let n = from_hex(first_field(rest), &mut space)?;
     let at = number(later_fields(rest), u64::MAX)? as usize;
     let buf = slice_up_to_len(&space, n);
-    out.outcome(b"", str_writer::from_custom(buf, at), b',');
+    out.call(b"", str_writer::from_custom(buf, at), at, b',');
     let left = str_writer::remaining_capacity(buf, at);
     out.cell(b" left ", left as u64, b' ');
     out.bytes(str_writer::as_bytes(buf, at));
@@ -24,10 +24,11 @@ pub(crate) fn truncate_call(rest: &[u8], out: &mut Printed) -> Option<()> {
     let at = number(first_field(later), u64::MAX)? as usize;
     let length = number(later_fields(later), u64::MAX)? as usize;
     let buf = slice_up_to_len(&space, n);
-    out.outcome(b"", str_writer::truncate(buf, at, length), b',');
-    out.outcome(
+    out.call(b"", str_writer::truncate(buf, at, length), at, b',');
+    out.call(
         b" utf8: ",
         str_writer::truncate_utf8(buf, at, length),
+        at,
         b'\n',
     );
     Some(())

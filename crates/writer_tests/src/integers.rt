@@ -1,9 +1,9 @@
 // Writes of integers.
+use error::Error;
 use fields::{first_field, later_fields, number};
 use formatting::{FormattingFlags, HexFormatting, NumberFormatting};
 use integer_writes::{write_debug, write_display};
 use pwrapper::PrimitiveInteger;
-use str_writer::Written;
 
 #[derive(Clone, Copy)]
 enum Form {
@@ -12,7 +12,12 @@ enum Form {
 }
 
 // A write of a value.
-fn written<I: PrimitiveInteger>(x: I, form: Form, buf: &mut [u8], at: usize) -> Written {
+fn written<I: PrimitiveInteger>(
+    x: I,
+    form: Form,
+    buf: &mut [u8],
+    at: usize,
+) -> Result<usize, Error> {
     match form {
         Form::Display => write_display(buf, at, x),
         Form::Debug(flags) => write_debug(buf, at, x, flags),
@@ -33,7 +38,7 @@ fn read_signed(s: &[u8]) -> Option<i64> {
 }
 
 // A write of the value that a field is in decimal, if the type of that name has it.
-fn call(t: &[u8], s: &[u8], form: Form, buf: &mut [u8], at: usize) -> Option<Written> {
+fn call(t: &[u8], s: &[u8], form: Form, buf: &mut [u8], at: usize) -> Option<Result<usize, Error>> {
     Some(match t {
         b"u8" => written(u8::try_from(read_unsigned(s)?).ok()?, form, buf, at),
         b"u16" => written(u16::try_from(read_unsigned(s)?).ok()?, form, buf, at),
@@ -79,7 +84,7 @@ pub(crate) fn integer_call(
     arguments: &[u8],
     buf: &mut [u8],
     at: usize,
-) -> Option<Written> {
+) -> Option<Result<usize, Error>> {
     let typed = name.strip_prefix(b"write_")?;
     if let Some(t) = typed.strip_suffix(b"_display") {
         return call(t, arguments, Form::Display, buf, at);

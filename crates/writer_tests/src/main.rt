@@ -9,6 +9,7 @@ mod print;
 mod texts;
 
 use cursor::{given_call, truncate_call};
+use error::Error;
 use fields::{first_field, later_fields, number};
 use integers::integer_call;
 use lent::{then_truncate_call, twice_call};
@@ -19,13 +20,12 @@ use quoted_writes::{
 };
 use std::io;
 use str_writer::{
-    Written, write_ascii, write_ascii_range, write_char, write_char_debug, write_str,
-    write_str_range,
+    write_ascii, write_ascii_range, write_char, write_char_debug, write_str, write_str_range,
 };
 use texts::{char_call, range_call, repeated_call, text_call};
 
 // Plays a write by its name.
-fn play(name: &[u8], arguments: &[u8], buf: &mut [u8], at: usize) -> Option<Written> {
+fn play(name: &[u8], arguments: &[u8], buf: &mut [u8], at: usize) -> Option<Result<usize, Error>> {
     match name {
         b"write_str" => text_call(arguments, |s| write_str(buf, at, s)),
         b"write_str_debug" => text_call(arguments, |s| write_str_debug(buf, at, s)),
@@ -60,7 +60,7 @@ fn write_call(name: &[u8], rest: &[u8], out: &mut Printed) -> Option<()> {
         return twice_call(arguments, buf, at, out);
     }
     let written = play(name, arguments, buf, at)?;
-    out.result(written, buf);
+    out.result(written, at, buf);
     Some(())
 }
 

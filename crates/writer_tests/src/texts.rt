@@ -1,10 +1,13 @@
 // Writes of text: strings, ASCII text, characters, a repeated byte.
+use error::Error;
 use fields::{first_field, from_hex, later_fields, number};
-use str_writer::Written;
 use utils::{Range, slice_up_to_len};
 
 // `HEX`, by the write of a text.
-pub(crate) fn text_call<F: FnOnce(&[u8]) -> Written>(arguments: &[u8], write: F) -> Option<Written>
+pub(crate) fn text_call<F: FnOnce(&[u8]) -> Result<usize, Error>>(
+    arguments: &[u8],
+    write: F,
+) -> Option<Result<usize, Error>>
     requires { F.IsAlwaysCallable write }
 {
     let mut space = [0u8; 72];
@@ -13,10 +16,10 @@ pub(crate) fn text_call<F: FnOnce(&[u8]) -> Written>(arguments: &[u8], write: F)
 }
 
 // `HEX,START,END`, by the write of a range of a text.
-pub(crate) fn range_call<F: FnOnce(&[u8], Range) -> Written>(
+pub(crate) fn range_call<F: FnOnce(&[u8], Range) -> Result<usize, Error>>(
     arguments: &[u8],
     write: F,
-) -> Option<Written>
+) -> Option<Result<usize, Error>>
     requires { F.IsAlwaysCallable write }
 {
     let mut space = [0u8; 72];
@@ -30,7 +33,10 @@ pub(crate) fn range_call<F: FnOnce(&[u8], Range) -> Written>(
 }
 
 // `CODE`, by the write of a character.
-pub(crate) fn char_call<F: FnOnce(u32) -> Written>(arguments: &[u8], write: F) -> Option<Written>
+pub(crate) fn char_call<F: FnOnce(u32) -> Result<usize, Error>>(
+    arguments: &[u8],
+    write: F,
+) -> Option<Result<usize, Error>>
     requires { F.IsAlwaysCallable write }
 {
     let c = u32::try_from(number(arguments, u64::MAX)?).ok()?;
@@ -38,7 +44,11 @@ pub(crate) fn char_call<F: FnOnce(u32) -> Written>(arguments: &[u8], write: F) -
 }
 
 // `BYTE,COUNT`.
-pub(crate) fn repeated_call(arguments: &[u8], buf: &mut [u8], at: usize) -> Option<Written> {
+pub(crate) fn repeated_call(
+    arguments: &[u8],
+    buf: &mut [u8],
+    at: usize,
+) -> Option<Result<usize, Error>> {
     let c = u8::try_from(number(first_field(arguments), u64::MAX)?).ok()?;
     let n = number(later_fields(arguments), u64::MAX)? as usize;
     Some(str_writer::write_ascii_repeated(buf, at, c, n))
