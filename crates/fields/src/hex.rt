@@ -1,12 +1,12 @@
 // Bytes in hexadecimal, two upper digits each.
 ghost use Rattle.std.specs.Prelude.{true, ◌≡◌, ◌+◌, ◌≤◌, ◌<◌, length};
-ghost use Rattle.str_writer.specs.Write.{outcome, splice};
+ghost use Rattle.str_writer.specs.Write.{outcome, splice, written};
 ghost use Rattle.str_writer.specs.Write.{put as put_text};
 ghost use Rattle.fields.specs.Hex.{is_hex_digit, hex_value, is_hex, hex_bytes, read_hex, hex_pairs};
 
-use error::Answer;
+use error::Error;
 use formatting::{HexFormatting, hex_as_ascii};
-use str_writer::Written;
+use str_writer::cursor_fault;
 
 // Whether b is an upper hexadecimal digit.
 fn is_hex_digit(b: u8) -> bool
@@ -66,24 +66,13 @@ fn lay_pairs(buf: &mut [u8], at: usize, s: &[u8])
 }
 
 // Writes bytes in hexadecimal at the cursor, or leaves the buffer as it is.
-pub fn put_hex(buf: &mut [u8], at: usize, s: &[u8]) -> Written
-    ensures { outcome result buf.new ≡ put_text buf.old at (hex_pairs s.now) }
+pub fn put_hex(buf: &mut [u8], at: usize, s: &[u8]) -> Result<usize, Error>
+    ensures { outcome (written at result) buf.new ≡ put_text buf.old at (hex_pairs s.now) }
 {
-    if buf.len() < at {
-        return Written {
-            at,
-            answer: Answer::BadCursor,
-        };
-    }
+    cursor_fault(buf.len(), at)?;
     if (buf.len() - at) / 2 < s.len() {
-        return Written {
-            at,
-            answer: Answer::NotEnoughSpace,
-        };
+        return Err(Error::NotEnoughSpace);
     }
     lay_pairs(buf, at, s);
-    Written {
-        at: at + 2 * s.len(),
-        answer: Answer::Done,
-    }
+    Ok(at + 2 * s.len())
 }

@@ -1,20 +1,22 @@
 -- Digits laid in an array from its end: the start, the step and the end of the loop, in any base from 2 on.
-use Rattle.std.proofs.Common.{◌≡◌, ℕ, zero, suc, ◌-◌, ◌*◌, ◌/◌, ◌%◌, ◌<◌, ◌≤◌, List, [], ◌∷◌, ◌++◌, length, set, replicate, sym, refl, ap, ◌∙◌, ⊎_elim, append-nil, mod-eq_of_lt, div-lt_iff_lt-mul, arith, length-append}
+use Rattle.std.proofs.Common.{◌≡◌, ℕ, zero, suc, ◌-◌, ◌*◌, ◌/◌, ◌%◌, ◌^◌, ◌<◌, ◌≤◌, List, ◌∷◌, ◌++◌, length, set, replicate, refl, ap, ⊎_elim, mod-eq_of_lt, div-lt_iff_lt-mul, arith, rules, lit≤, length-append}
 use native.Mathlib.Nat.{div-eq_of_lt}
 use lib.Seq.{append_snoc}
 use Rattle.pwrapper.specs.Digits.{digit_text}
-use Rattle.pwrapper.proofs.Digits.{lt_or_ge, text-low, text-step, text_pos}
+use Rattle.pwrapper.proofs.Digits.{lt_or_ge, text-low, text-step, text_pos, text-short}
 use Rattle.pargument.specs.Integer.{start_of, array_of, Ends}
+
+-- a number of 64 bits has at most 64 digits in base 2, 20 in base 10 and 16 in base 16
+pub digits_fit : (f : ℕ → ℕ) (n : ℕ) → n < 2 ^ 64 → (length (digit_text f 2 n) ≤ 64) × (length (digit_text f 10 n) ≤ 20) × (length (digit_text f 16 n) ≤ 16)
+digits_fit f n h = (text-short 2 (lit≤ tt) f 63 n h, text-short 10 (lit≤ tt) f 19 n (omega arith), text-short 16 (lit≤ tt) f 15 n h)
 
 -- what the contracts say of the start and the array
 pub settled : {size : ℕ} {array : List ℕ} {at : ℕ} {text : List ℕ} → Ends size array at text → (at ≡ start_of size text) × (array ≡ array_of size text)
-settled {size} {array} {at} {text} h =
-    let e : at ≡ size - length text = omega arith in
-    (e, h.bytes ∙ ap (λ (k : ℕ). replicate k 0 ++ text) e)
+settled h = search rules
 
 set-last-zero : (k : ℕ) (t : List ℕ) (d : ℕ) → set (replicate (suc k) 0 ++ t) k d ≡ replicate k 0 ++ d ∷ t
 set-last-zero zero t d = refl
-set-last-zero (suc k) t d = ap (λ (l : List ℕ). 0 ∷ l) (set-last-zero k t d)
+set-last-zero (suc k) t d = grind (arith, set-last-zero k t d)
 
 -- one byte more before the text
 pub put : {size : ℕ} {array : List ℕ} {at k : ℕ} {text : List ℕ} (d : ℕ) → at ≡ suc k → Ends size array at text → Ends size (set array k d) k (d ∷ text)
@@ -28,7 +30,7 @@ pub record Laying (f : ℕ → ℕ) (b size n : ℕ) (array : List ℕ) (at rest
   pub text : digit_text f b rest ++ laid ≡ digit_text f b n
 
 pub laying_start : {f : ℕ → ℕ} {b n : ℕ} (size : ℕ) → length (digit_text f b n) ≤ size → Laying f b size n (replicate size 0) size n
-laying_start size h = record { laid = []; ends = record { bytes = sym (append-nil _); whole = omega arith }; fits = h; text = append-nil _ }
+laying_start size h = search rules
 
 module _ {f : ℕ → ℕ} {b size n : ℕ} (b2 : 2 ≤ b) {array : List ℕ} {at rest : ℕ} (l : Laying f b size n array at rest) where
   -- there is a place for the next digit

@@ -1,7 +1,7 @@
 -- Document 01, 'The writer': the lent buffer and the cursor kept together.
 use Rattle.std.specs.Prelude.{◌≡◌, List, ℕ, length}
 use denote.Ref.{at_last}
-use Rattle.error.specs.declared.Answer.{Answer}
+use Rattle.error.specs.Answer.{Answer}
 use Rattle.formatting.specs.Flags.{default_flags}
 use Rattle.str_writer.specs.Value.{Value}
 use Rattle.str_writer.specs.Truncate.{truncated, truncated_utf8}

@@ -9,26 +9,12 @@ ghost use Rattle.str_writer.specs.Value.{str, display, debug, whole};
 ghost use Rattle.str_writer.specs.Write.{outcome, write};
 ghost use Rattle.str_writer_mut.specs.Writer.{Gives, GivesTwice, GivesTruncated};
 
-use error::Answer;
-use str_writer::Written;
+use error::Error;
 
 #[derive(Drop)]
 pub struct StrWriterMut<'w> {
     pub buffer: &'w mut [u8],
     pub len: usize,
-}
-
-// truncate and truncate_utf8 of crate str_writer, on the slice as a writer lends it.
-fn truncate_at(buf: &mut [u8], at: usize, length: usize) -> Written
-    ensures { outcome result buf.new ≡ outcome (truncated buf.old at length) buf.old }
-{
-    str_writer::truncate(buf, at, length)
-}
-
-fn truncate_utf8_at(buf: &mut [u8], at: usize, length: usize) -> Written
-    ensures { outcome result buf.new ≡ outcome (truncated_utf8 buf.old at length) buf.old }
-{
-    str_writer::truncate_utf8(buf, at, length)
 }
 
 impl<'w> StrWriterMut<'w> {
@@ -49,64 +35,56 @@ impl<'w> StrWriterMut<'w> {
         Self { buffer, len: 0 }
     }
 
-    // The length of the text. The writer is lent as for a write, and is as it was.
-    pub fn len(&mut self) -> usize
-        ensures { (result ≡ self.old.len) × (self.new ≡ self.old) }
+    // The length of the text.
+    pub fn len(&self) -> usize
+        ensures { result ≡ self.now.len }
     {
         self.len
     }
 
     // Writes a string at the cursor.
-    pub fn write_str(&mut self, s: &[u8]) -> Answer
+    pub fn write_str(&mut self, s: &[u8]) -> Result<(), Error>
         ensures { Gives result self.old self.new
             (write default_flags self.old.buffer.now self.old.len (str display s.now (whole s.now))) }
     {
-        let at = self.len;
-        let r = str_writer::write_str(&mut *self.buffer, at, s);
-        self.len = r.at;
-        r.answer
+        self.len = str_writer::write_str(&mut *self.buffer, self.len, s)?;
+        Ok(())
     }
 
     // Writes a string between quotation marks at the cursor.
-    pub fn write_str_debug(&mut self, s: &[u8]) -> Answer
+    pub fn write_str_debug(&mut self, s: &[u8]) -> Result<(), Error>
         ensures { Gives result self.old self.new
             (write default_flags self.old.buffer.now self.old.len (str debug s.now (whole s.now))) }
     {
-        let at = self.len;
-        let r = quoted_writes::write_str_debug(&mut *self.buffer, at, s);
-        self.len = r.at;
-        r.answer
+        self.len = quoted_writes::write_str_debug(&mut *self.buffer, self.len, s)?;
+        Ok(())
     }
 
-    // truncate for NoEncoding.
-    pub fn truncate(&mut self, length: usize) -> Answer
+    // truncate for NoEncoding. The slice is lent as for a write, so that the proof knows it unchanged.
+    pub fn truncate(&mut self, length: usize) -> Result<(), Error>
         ensures { Gives result self.old self.new
             (outcome (truncated self.old.buffer.now self.old.len length) self.old.buffer.now) }
     {
-        let at = self.len;
-        let r = truncate_at(&mut *self.buffer, at, length);
-        self.len = r.at;
-        r.answer
+        self.len = str_writer::truncate(&mut *self.buffer, self.len, length)?;
+        Ok(())
     }
 
     // truncate for Utf8Encoding: 3 for a length that is no boundary of the text, whose end is one.
-    pub fn truncate_utf8(&mut self, length: usize) -> Answer
+    pub fn truncate_utf8(&mut self, length: usize) -> Result<(), Error>
         ensures { Gives result self.old self.new
             (outcome (truncated_utf8 self.old.buffer.now self.old.len length) self.old.buffer.now) }
     {
-        let at = self.len;
-        let r = truncate_utf8_at(&mut *self.buffer, at, length);
-        self.len = r.at;
-        r.answer
+        self.len = str_writer::truncate_utf8(&mut *self.buffer, self.len, length)?;
+        Ok(())
     }
 }
 
-// What two writes answer, and where the cursor then is.
+// What two writes answer, and where the cursor then is: it is somewhere whatever they answer.
 #[derive(Clone, Copy)]
 pub struct WrittenTwice {
     pub at: usize,
-    pub first: Answer,
-    pub second: Answer,
+    pub first: Result<(), Error>,
+    pub second: Result<(), Error>,
 }
 
 // A string and after it a quoted string, through one writer: its parameters are plain, so that
@@ -125,14 +103,15 @@ pub fn write_str_then_debug(buffer: &mut [u8], length: usize, s: &[u8], t: &[u8]
     }
 }
 
-// What a write and two truncations answer, the length between the two, and where the cursor then is.
+// What a write and two truncations answer, the length between the two, and where the cursor then is:
+// both are there whatever the three answer.
 #[derive(Clone, Copy)]
 pub struct Truncated {
     pub at: usize,
     pub len: usize,
-    pub written: Answer,
-    pub plain: Answer,
-    pub utf8: Answer,
+    pub written: Result<(), Error>,
+    pub plain: Result<(), Error>,
+    pub utf8: Result<(), Error>,
 }
 
 // A string through a cleared writer, truncated without an encoding and then for UTF-8: its parameters

@@ -8,15 +8,6 @@ use lib.Seq.{drop-cons}
 use Rattle.utf8.proofs.Ranges.{ends}
 use Rattle.utf8.proofs.by_octets.Goals as goal
 
-pub loop-i-init : goal.loop-i-init
-loop-i-init c = (omega arith, refl)
-
-pub loop-i-preserved : goal.loop-i-preserved
-loop-i-preserved c = let s = c.args.s.now in
-    let l = c.loop-i in
-    let h : l.i < length s = omega arith in
-    (omega arith, c.after-expected.ensures (drop (l.i + 1) s) ∙ rw (add-one, ← drop-cons s l.i 0 h) l.invariant.1)
-
 pub returns : goal.returns
 returns c = let s = c.args.s.now in
     let l = c.loop-i in

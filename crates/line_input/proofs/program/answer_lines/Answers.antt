@@ -8,8 +8,5 @@ loop-init g c = going-begins _ _ _ _ _ _ c.new-reader.ensures
 pub loop-preserved-in-Some : goal.loop-preserved-in-Some
 loop-preserved-in-Some g c = going-answers _ _ _ _ _ _ _ _ _ _ c.loop.invariant _ c.in-Some.ensures _ _ c.answer-end.ensures _ (search rules)
 
-pub returns-then-reader : goal.returns-then-reader
-returns-then-reader g c = going-ends _ _ _ _ _ _ _ _ _ _ c.loop.invariant c.in_default.ensures (search rules)
-
 pub loop-preserved : goal.loop-preserved
 loop-preserved g c = going-reads _ _ _ _ _ _ _ _ _ _ c.loop.invariant c.in_default.ensures (search rules) _ _ _ c.read_more.ensures.0 c.read_more.ensures.1

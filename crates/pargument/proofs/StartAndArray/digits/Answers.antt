@@ -1,9 +1,6 @@
 use Rattle.std.proofs.Common.{◌%◌, ◌<◌, arith, mod-eq_of_lt}
-use Rattle.pargument.proofs.Laying.{laying_start, laying_place, laying_step, laying_end}
+use Rattle.pargument.proofs.Laying.{laying_place, laying_step, laying_end}
 use Rattle.pargument.proofs.StartAndArray.digits.Goals as goal
-
-pub loop-rest-init : goal.loop-rest-init
-loop-rest-init g c = laying_start g.row.N c.requires.room
 
 pub overflow_sub-at : goal.overflow_sub-at
 overflow_sub-at g c = laying_place c.requires.base.0 c.loop-rest.invariant
