@@ -66,7 +66,7 @@ fn put_forms<I: PrimitiveInteger>(x: I, out: &mut Printed) {
 }
 
 // The number that a field is in decimal, behind a minus or not.
-fn read_signed(s: &[u8]) -> Option<Signed> {
+fn read_parts(s: &[u8]) -> Option<Signed> {
     match s {
         [b'-', digits @ ..] => Some(Signed::Minus(number(digits, u64::MAX)?)),
         _ => Some(Signed::Plus(number(s, u64::MAX)?)),
@@ -74,13 +74,13 @@ fn read_signed(s: &[u8]) -> Option<Signed> {
 }
 
 // The number of an unsigned type that a field is in decimal.
-fn read_u64(s: &[u8]) -> Option<u64> {
+fn read_unsigned(s: &[u8]) -> Option<u64> {
     number(s, u64::MAX)
 }
 
 // The number of a signed type that a field is in decimal. No number is -0.
-fn read_i64(s: &[u8]) -> Option<i64> {
-    match read_signed(s)? {
+fn read_signed(s: &[u8]) -> Option<i64> {
+    match read_parts(s)? {
         Signed::Plus(n) => i64::try_from(n).ok(),
         Signed::Minus(n) => Some(!i64::try_from(n.checked_sub(1)?).ok()?),
     }
@@ -89,14 +89,14 @@ fn read_i64(s: &[u8]) -> Option<i64> {
 // `u8,VALUE` to `i64,VALUE`: the display form, and the debug form by six flags.
 pub(crate) fn put_integer(word: &[u8], s: &[u8], out: &mut Printed) -> Option<()> {
     match word {
-        b"u8" => put_forms(u8::try_from(read_u64(s)?).ok()?, out),
-        b"u16" => put_forms(u16::try_from(read_u64(s)?).ok()?, out),
-        b"u32" => put_forms(u32::try_from(read_u64(s)?).ok()?, out),
-        b"u64" => put_forms(read_u64(s)?, out),
-        b"i8" => put_forms(i8::try_from(read_i64(s)?).ok()?, out),
-        b"i16" => put_forms(i16::try_from(read_i64(s)?).ok()?, out),
-        b"i32" => put_forms(i32::try_from(read_i64(s)?).ok()?, out),
-        b"i64" => put_forms(read_i64(s)?, out),
+        b"u8" => put_forms(u8::try_from(read_unsigned(s)?).ok()?, out),
+        b"u16" => put_forms(u16::try_from(read_unsigned(s)?).ok()?, out),
+        b"u32" => put_forms(u32::try_from(read_unsigned(s)?).ok()?, out),
+        b"u64" => put_forms(read_unsigned(s)?, out),
+        b"i8" => put_forms(i8::try_from(read_signed(s)?).ok()?, out),
+        b"i16" => put_forms(i16::try_from(read_signed(s)?).ok()?, out),
+        b"i32" => put_forms(i32::try_from(read_signed(s)?).ok()?, out),
+        b"i64" => put_forms(read_signed(s)?, out),
         _ => return None,
     }
     Some(())
@@ -114,7 +114,7 @@ fn put_texts(i: Integer, out: &mut Printed) {
 
 // `integer,UNSIGNED,MASK`, with a minus before UNSIGNED or not: the display form, and the bits.
 pub(crate) fn put_parts(fields: &[u8], out: &mut Printed) -> Option<()> {
-    let (is_negative, unsigned) = match read_signed(first_field(fields))? {
+    let (is_negative, unsigned) = match read_parts(first_field(fields))? {
         Signed::Plus(n) => (false, n),
         Signed::Minus(n) => (true, n),
     };

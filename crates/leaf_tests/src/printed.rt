@@ -37,7 +37,7 @@ impl<'a> Printed<'a> {
     }
 
     // Lays a number in decimal.
-    fn number(&mut self, n: u64) {
+    fn decimal(&mut self, n: u64) {
         self.len = write_display(&mut *self.buf, self.len, n).at;
     }
 
@@ -46,8 +46,8 @@ impl<'a> Printed<'a> {
         for (i, part) in text.split(|b| *b == b'%').enumerate() {
             match i {
                 0 => {}
-                1 => self.number(first),
-                _ => self.number(later),
+                1 => self.decimal(first),
+                _ => self.decimal(later),
             }
             self.bytes(part);
         }

@@ -20,29 +20,29 @@ fn written<I: PrimitiveInteger>(x: I, form: Form, buf: &mut [u8], at: usize) -> 
 }
 
 // The number that a field is in decimal.
-fn read_u64(s: &[u8]) -> Option<u64> {
+fn read_unsigned(s: &[u8]) -> Option<u64> {
     number(s, u64::MAX)
 }
 
 // The number that a field is in decimal, behind a minus or not, if an i64 has it.
-fn read_i64(s: &[u8]) -> Option<i64> {
+fn read_signed(s: &[u8]) -> Option<i64> {
     match s {
-        [b'-', digits @ ..] => Some(!i64::try_from(read_u64(digits)?.checked_sub(1)?).ok()?),
-        _ => i64::try_from(read_u64(s)?).ok(),
+        [b'-', digits @ ..] => Some(!i64::try_from(read_unsigned(digits)?.checked_sub(1)?).ok()?),
+        _ => i64::try_from(read_unsigned(s)?).ok(),
     }
 }
 
 // A write of the value that a field is in decimal, if the type of that name has it.
 fn call(t: &[u8], s: &[u8], form: Form, buf: &mut [u8], at: usize) -> Option<Written> {
     Some(match t {
-        b"u8" => written(u8::try_from(read_u64(s)?).ok()?, form, buf, at),
-        b"u16" => written(u16::try_from(read_u64(s)?).ok()?, form, buf, at),
-        b"u32" => written(u32::try_from(read_u64(s)?).ok()?, form, buf, at),
-        b"u64" => written(read_u64(s)?, form, buf, at),
-        b"i8" => written(i8::try_from(read_i64(s)?).ok()?, form, buf, at),
-        b"i16" => written(i16::try_from(read_i64(s)?).ok()?, form, buf, at),
-        b"i32" => written(i32::try_from(read_i64(s)?).ok()?, form, buf, at),
-        b"i64" => written(read_i64(s)?, form, buf, at),
+        b"u8" => written(u8::try_from(read_unsigned(s)?).ok()?, form, buf, at),
+        b"u16" => written(u16::try_from(read_unsigned(s)?).ok()?, form, buf, at),
+        b"u32" => written(u32::try_from(read_unsigned(s)?).ok()?, form, buf, at),
+        b"u64" => written(read_unsigned(s)?, form, buf, at),
+        b"i8" => written(i8::try_from(read_signed(s)?).ok()?, form, buf, at),
+        b"i16" => written(i16::try_from(read_signed(s)?).ok()?, form, buf, at),
+        b"i32" => written(i32::try_from(read_signed(s)?).ok()?, form, buf, at),
+        b"i64" => written(read_signed(s)?, form, buf, at),
         _ => return None,
     })
 }

@@ -64,9 +64,11 @@ fn write_call(name: &[u8], rest: &[u8], out: &mut Printed) -> Option<()> {
     Some(())
 }
 
-// Lays what the case that a line is gives, if the line has the form of one.
-fn put_case(line: &[u8], out: &mut Printed) -> Option<()> {
+// Lays a line, a colon and what the case that it is gives, if the line has the form of one.
+fn put_line(line: &[u8], out: &mut Printed) -> Option<()> {
     let rest = later_fields(line);
+    out.text(line);
+    out.text(b": ");
     match first_field(line) {
         b"from_custom" => given_call(rest, out),
         b"truncate" => truncate_call(rest, out),
@@ -78,13 +80,8 @@ fn put_case(line: &[u8], out: &mut Printed) -> Option<()> {
 // Lays what a line prints: itself, a colon and what it gives; nothing for a comment, `bad` for a line
 // of another form.
 fn answer(line: &[u8], out: &mut [u8]) -> usize {
-    if line.starts_with(b"#") {
-        return 0;
-    }
     let mut printed = Printed::new(out);
-    printed.text(line);
-    printed.text(b": ");
-    if put_case(line, &mut printed).is_none() {
+    if !line.starts_with(b"#") && put_line(line, &mut printed).is_none() {
         printed.clear();
         printed.text(b"bad\n");
     }
