@@ -12,29 +12,29 @@ fn written<I: IntegerValue>(fmt: Formatter, buf: &mut [u8], form: Form, x: I) ->
 }
 
 // The number that a field is in decimal.
-fn read_u64(s: &[u8]) -> Option<u64> {
+fn read_unsigned(s: &[u8]) -> Option<u64> {
     number(s, u64::MAX)
 }
 
 // The number that a field is in decimal, behind a minus or not, if an i64 has it.
-fn read_i64(s: &[u8]) -> Option<i64> {
+fn read_signed(s: &[u8]) -> Option<i64> {
     match s {
-        [b'-', digits @ ..] => Some(!i64::try_from(read_u64(digits)?.checked_sub(1)?).ok()?),
-        _ => i64::try_from(read_u64(s)?).ok(),
+        [b'-', digits @ ..] => Some(!i64::try_from(read_unsigned(digits)?.checked_sub(1)?).ok()?),
+        _ => i64::try_from(read_unsigned(s)?).ok(),
     }
 }
 
 // The value that a field is in decimal, if the type of that name has it.
 fn call(fmt: Formatter, buf: &mut [u8], form: Form, t: &[u8], s: &[u8]) -> Option<FormatterStep> {
     Some(match t {
-        b"u8" => written(fmt, buf, form, u8::try_from(read_u64(s)?).ok()?),
-        b"u16" => written(fmt, buf, form, u16::try_from(read_u64(s)?).ok()?),
-        b"u32" => written(fmt, buf, form, u32::try_from(read_u64(s)?).ok()?),
-        b"u64" => written(fmt, buf, form, read_u64(s)?),
-        b"i8" => written(fmt, buf, form, i8::try_from(read_i64(s)?).ok()?),
-        b"i16" => written(fmt, buf, form, i16::try_from(read_i64(s)?).ok()?),
-        b"i32" => written(fmt, buf, form, i32::try_from(read_i64(s)?).ok()?),
-        b"i64" => written(fmt, buf, form, read_i64(s)?),
+        b"u8" => written(fmt, buf, form, u8::try_from(read_unsigned(s)?).ok()?),
+        b"u16" => written(fmt, buf, form, u16::try_from(read_unsigned(s)?).ok()?),
+        b"u32" => written(fmt, buf, form, u32::try_from(read_unsigned(s)?).ok()?),
+        b"u64" => written(fmt, buf, form, read_unsigned(s)?),
+        b"i8" => written(fmt, buf, form, i8::try_from(read_signed(s)?).ok()?),
+        b"i16" => written(fmt, buf, form, i16::try_from(read_signed(s)?).ok()?),
+        b"i32" => written(fmt, buf, form, i32::try_from(read_signed(s)?).ok()?),
+        b"i64" => written(fmt, buf, form, read_signed(s)?),
         _ => return None,
     })
 }

@@ -63,11 +63,9 @@ fn put_line(line: &[u8], out: &mut Printed) -> Option<()> {
 
 // Lays what a line prints: where that ends. A comment and an empty line print nothing.
 fn answer(line: &[u8], out: &mut [u8]) -> usize {
-    if line.is_empty() || line.starts_with(b"#") {
-        return 0;
-    }
     let mut printed = Printed::new(out);
-    if put_line(line, &mut printed).is_none() {
+    let is_case = !line.is_empty() && !line.starts_with(b"#");
+    if is_case && put_line(line, &mut printed).is_none() {
         printed.text(b"bad\n");
     }
     printed.len()

@@ -27,7 +27,7 @@ impl<'a> Printed<'a> {
     }
 
     // Lays a number and a byte after it.
-    fn number(&mut self, n: u64, after: u8) {
+    fn decimal(&mut self, n: u64, after: u8) {
         self.len = put_number(&mut *self.buf, self.len, n, after).at;
     }
 
@@ -40,15 +40,15 @@ impl<'a> Printed<'a> {
     fn formatter(&mut self, fmt: Formatter, after: u8) {
         let head = fmt.head;
         let mode = head.mode;
-        self.number(mode.number as u64, b' ');
-        self.number(u64::from(fmt.margin()), b' ');
-        self.number(u64::from(fmt.flags()), after);
+        self.decimal(mode.number as u64, b' ');
+        self.decimal(u64::from(fmt.margin()), b' ');
+        self.decimal(u64::from(fmt.flags()), after);
     }
 
     // Lays what a call gave, after a text: its answer and the formatter.
     fn step(&mut self, before: &[u8], step: FormatterStep, after: u8) {
         self.text(before);
-        self.number(u64::from(step.answer), b' ');
+        self.decimal(u64::from(step.answer), b' ');
         self.formatter(step.fmt, after);
     }
 

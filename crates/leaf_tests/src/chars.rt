@@ -12,14 +12,18 @@ fn put_array(array: &[u8], len: usize, out: &mut Printed) {
     out.template(b",% ", len as u64, 0);
 }
 
-// The answer and the octets: zeros, none of them used, where c is no character.
+// The answer and the octets: zeros, none of them used, of what is no character.
 fn put_octets(c: u32, out: &mut Printed) {
-    let (answer, bytes, len) = match char_to_utf8(c) {
-        Ok(made) => (0, made.bytes, made.len),
-        Err(error) => (u8::from(error), [0; 4], 0),
-    };
-    out.template(b"%: % ", u64::from(c), u64::from(answer));
-    put_array(&bytes, len, out);
+    match char_to_utf8(c) {
+        Ok(made) => {
+            out.template(b"%: 0 ", u64::from(c), 0);
+            put_array(&made.bytes, made.len, out);
+        }
+        Err(error) => {
+            out.template(b"%: % ", u64::from(c), u64::from(u8::from(error)));
+            put_array(&[0; 4], 0, out);
+        }
+    }
 }
 
 // The display or the quoted form: zeros, none of them used, of what is no character.

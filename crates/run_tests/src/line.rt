@@ -114,7 +114,11 @@ fn read_calls<'a>(calls: &[u8], words: &'a mut [u64], pool: &mut [u8]) -> Option
     let n = calls.iter().filter(|b| **b == b';').count();
     let words = words.get_mut(..n.checked_mul(5)?)?;
     let mut start = 0usize;
-    for (call, to) in calls.split(|b| *b == b';').skip(1).zip(words.chunks_exact_mut(5)) {
+    for (call, to) in calls
+        .split(|b| *b == b';')
+        .skip(1)
+        .zip(words.chunks_exact_mut(5))
+    {
         let read = read_call(call, pool, start)?;
         start = start.checked_add(read[2] as usize)?;
         to.copy_from_slice(&read);

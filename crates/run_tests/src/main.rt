@@ -13,7 +13,7 @@ use print::Printed;
 use std::io;
 
 // Lays what a run gives, played as its word says, if its number has the form that the word wants.
-fn play(word: Word, run: Run, out: &mut Printed) -> Option<()> {
+fn put_played(word: Word, run: Run, out: &mut Printed) -> Option<()> {
     match word {
         Word::Show => show(run, out),
         Word::Both => put_both(run, out),
@@ -33,16 +33,14 @@ fn put_run(line: &[u8], out: &mut Printed) -> Option<()> {
     let (word, run, name) = read_line(line, &mut words, &mut pool)?;
     out.text(name);
     out.byte(b':');
-    play(word, run, out)
+    put_played(word, run, out)
 }
 
 // Lays what a line prints: where that ends. A comment and an empty line print nothing.
 fn answer(line: &[u8], out: &mut [u8]) -> usize {
-    if line.is_empty() || line.starts_with(b"#") {
-        return 0;
-    }
     let mut printed = Printed::new(out);
-    if put_run(line, &mut printed).is_none() {
+    let is_case = !line.is_empty() && !line.starts_with(b"#");
+    if is_case && put_run(line, &mut printed).is_none() {
         printed.clear();
         printed.text(b"bad\n");
     }

@@ -29,8 +29,8 @@ pub(crate) fn put_write(run: Run, out: &mut Printed) {
 pub(crate) fn put_added(run: Run, out: &mut Printed) {
     let r = count_run_then_add_len(run.settings, run.calls, run.text, run.n);
     out.ran(r.ran, b' ');
-    out.number(u64::from(r.answer), b' ');
-    out.number(r.total as u64, b'\n');
+    out.decimal(u64::from(r.answer), b' ');
+    out.decimal(r.total as u64, b'\n');
 }
 
 // The call that five words are, counted on from a total by the counter that is lent.
@@ -51,8 +51,8 @@ fn count_call(
 fn put_counted_call(r: CountedCall, out: &mut Printed) {
     let step = r.step;
     out.next(u64::from(step.answer), b' ');
-    out.number(r.total as u64, b' ');
-    out.number(bit(r.empty), b',');
+    out.decimal(r.total as u64, b' ');
+    out.decimal(bit(r.empty), b',');
 }
 
 // A run counted call by call on from a total of N: what each call gives, and at the end how many
@@ -71,14 +71,17 @@ pub(crate) fn put_calls(run: Run, out: &mut Printed) {
         total = r.total;
     }
     out.next(head.open_entries() as u64, b' ');
-    out.number(u64::from(head.margin()), b'\n');
+    out.decimal(u64::from(head.margin()), b'\n');
 }
 
 // A run counted by its settings, and written by others from place N of 160 dots.
 fn put_counted_and_written(run: Run, written: Settings, out: &mut Printed) {
     let mut dots = [b'.'; 160];
     out.ran(count_run(run.settings, run.calls, run.text), b',');
-    out.ran(write_run(written, &mut dots, run.n, run.calls, run.text), b'\n');
+    out.ran(
+        write_run(written, &mut dots, run.n, run.calls, run.text),
+        b'\n',
+    );
 }
 
 // A run counted by its settings, and written by the default ones from place N of 160 dots.
@@ -119,30 +122,32 @@ fn put_prefixes(run: Run, out: &mut Printed) {
 
 // A run written from a place of a buffer, and the bytes of the buffer then.
 fn put_written(run: Run, buf: &mut [u8], from: usize, out: &mut Printed) {
-    out.ran(write_run(run.settings, buf, from, run.calls, run.text), b' ');
+    out.ran(
+        write_run(run.settings, buf, from, run.calls, run.text),
+        b' ',
+    );
     out.hex(buf);
     out.byte(b'\n');
 }
 
-// A run written into buffers of less than `most` dots, and past the end of four dots.
-fn put_sizes(run: Run, most: u8, out: &mut Printed) {
-    for size in 0..usize::from(most) {
-        let mut dots = [b'.'; 256];
+// A run written into buffers of every size up to one byte more than its total, but less than 160, and
+// past the end of four dots.
+fn put_sizes(run: Run, total: usize, out: &mut Printed) {
+    for size in 0..total.saturating_add(2).min(160) {
+        let mut dots = [b'.'; 160];
         out.next(size as u64, b':');
-        put_written(run, &mut dots[0..size], 0, out);
+        put_written(run, &mut dots[..size], 0, out);
     }
     let mut four = [b'.'; 4];
     out.text(b" 4 at 5:");
     put_written(run, &mut four, 5, out);
 }
 
-// A run counted, its first calls, and the run written into buffers of every size up to one byte more
-// than its total, but less than 160.
+// A run counted, its first calls, and the run written into buffers of growing sizes.
 pub(crate) fn show(run: Run, out: &mut Printed) {
     let total = count_run(run.settings, run.calls, run.text);
     out.text(b" counted");
     out.ran(total, b'\n');
     put_prefixes(run, out);
-    let sizes = total.number.saturating_add(2);
-    put_sizes(run, u8::try_from(sizes).unwrap_or(160).min(160), out);
+    put_sizes(run, total.number, out);
 }

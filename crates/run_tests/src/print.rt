@@ -37,14 +37,14 @@ impl<'a> Printed<'a> {
     }
 
     // Lays a number and a byte after it.
-    pub(crate) fn number(&mut self, n: u64, after: u8) {
+    pub(crate) fn decimal(&mut self, n: u64, after: u8) {
         self.len = put_number(&mut *self.buf, self.len, n, after).at;
     }
 
     // Lays a number after a space, and a byte after it.
     pub(crate) fn next(&mut self, n: u64, after: u8) {
         self.byte(b' ');
-        self.number(n, after);
+        self.decimal(n, after);
     }
 
     // Lays bytes in hexadecimal.
@@ -56,9 +56,9 @@ impl<'a> Printed<'a> {
     // that refusal, and how many entries are open.
     pub(crate) fn ran(&mut self, r: Ran, after: u8) {
         self.next(u64::from(r.first), b' ');
-        self.number(r.number as u64, b' ');
-        self.number(r.place as u64, b' ');
-        self.number(r.entries as u64, after);
+        self.decimal(r.number as u64, b' ');
+        self.decimal(r.place as u64, b' ');
+        self.decimal(r.entries as u64, after);
     }
 
     // Lays the end of a run, the answers to its calls as HEX, and a text after them.
