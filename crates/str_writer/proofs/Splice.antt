@@ -50,34 +50,11 @@ splice-four b at x y z u h =
     splice-one (set (set (set b at x) (at + 1) y) (at + 2) z) (at + 3) u (omega arith)
     ∙ rw (splice-three b at x y z (omega arith)) (splice-splice b at (x ∷ y ∷ z ∷ []) (u ∷ []) (omega arith))
 
--- a text of up to four bytes, stored one after another
-module _ (b : List ℕ) (at : ℕ) where
-  pub few_none : (s : List ℕ) → length s ≡ 0 → b ≡ splice b at s
-  few_none [] e = sym (splice-nil b at)
-  few_none (x ∷ s) e = absurd (omega (arith, e))
-
-  pub few_one : (s : List ℕ) → length s ≡ 1 → at + length s ≤ length b → set b at (get_or s 0 0) ≡ splice b at s
-  few_one [] e h = absurd (omega (arith, e))
-  few_one (x ∷ []) e h = splice-one b at x (omega arith)
-  few_one (x ∷ y ∷ s) e h = absurd (omega (arith, e))
-
-  pub few_two : (s : List ℕ) → length s ≡ 2 → at + length s ≤ length b → set (set b at (get_or s 0 0)) (at + 1) (get_or s 1 0) ≡ splice b at s
-  few_two [] e h = absurd (omega (arith, e))
-  few_two (x ∷ []) e h = absurd (omega (arith, e))
-  few_two (x ∷ y ∷ []) e h = splice-two b at x y (omega arith)
-  few_two (x ∷ y ∷ z ∷ s) e h = absurd (omega (arith, e))
-
-  pub few_three : (s : List ℕ) → length s ≡ 3 → at + length s ≤ length b → set (set (set b at (get_or s 0 0)) (at + 1) (get_or s 1 0)) (at + 2) (get_or s 2 0) ≡ splice b at s
-  few_three [] e h = absurd (omega (arith, e))
-  few_three (x ∷ []) e h = absurd (omega (arith, e))
-  few_three (x ∷ y ∷ []) e h = absurd (omega (arith, e))
-  few_three (x ∷ y ∷ z ∷ []) e h = splice-three b at x y z (omega arith)
-  few_three (x ∷ y ∷ z ∷ u ∷ s) e h = absurd (omega (arith, e))
-
-  pub few_four : (s : List ℕ) → length s ≡ 4 → at + length s ≤ length b → set (set (set (set b at (get_or s 0 0)) (at + 1) (get_or s 1 0)) (at + 2) (get_or s 2 0)) (at + 3) (get_or s 3 0) ≡ splice b at s
-  few_four [] e h = absurd (omega (arith, e))
-  few_four (x ∷ []) e h = absurd (omega (arith, e))
-  few_four (x ∷ y ∷ []) e h = absurd (omega (arith, e))
-  few_four (x ∷ y ∷ z ∷ []) e h = absurd (omega (arith, e))
-  few_four (x ∷ y ∷ z ∷ u ∷ []) e h = splice-four b at x y z u (omega arith)
-  few_four (x ∷ y ∷ z ∷ u ∷ v ∷ s) e h = absurd (omega (arith, e))
+-- a text of four bytes, stored one after another
+pub few_four : (b : List ℕ) (at : ℕ) → (s : List ℕ) → length s ≡ 4 → at + length s ≤ length b → set (set (set (set b at (get_or s 0 0)) (at + 1) (get_or s 1 0)) (at + 2) (get_or s 2 0)) (at + 3) (get_or s 3 0) ≡ splice b at s
+few_four b at [] e h = absurd (omega (arith, e))
+few_four b at (x ∷ []) e h = absurd (omega (arith, e))
+few_four b at (x ∷ y ∷ []) e h = absurd (omega (arith, e))
+few_four b at (x ∷ y ∷ z ∷ []) e h = absurd (omega (arith, e))
+few_four b at (x ∷ y ∷ z ∷ u ∷ []) e h = splice-four b at x y z u (omega arith)
+few_four b at (x ∷ y ∷ z ∷ u ∷ v ∷ s) e h = absurd (omega (arith, e))

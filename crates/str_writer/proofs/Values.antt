@@ -13,7 +13,7 @@ use lib.ListN.{length, replicate, length-replicate}
 use lib.Seq.{take-length}
 use borrow.Author.Tests.{lt-ltb, le-ltb, eq-eqb}
 use Rattle.error.specs.declared.Error.{Error}
-use Rattle.error.specs.declared.Error.TheVariants.{NotAscii, NotOnCharBoundary, NotUtf8, NotAChar}
+use Rattle.error.specs.declared.Error.TheVariants.{NotAscii, NotOnCharBoundary, NotAChar}
 use Rattle.formatting.specs.declared.flags.FormattingFlags.{FormattingFlags}
 use Rattle.utf8.specs.Utf8.{well_formed, continues, is_scalar}
 use Rattle.utf8.proofs.Grammar.{none-low, broken}
@@ -50,14 +50,6 @@ pub end_boundary : (s : List ℕ) → is_boundary s (length s) ≡ true
 end_boundary s = rw (le-ltb (length s) (length s) (omega arith)) (eq-eqb (length s) (length s) refl)
 
 module _ (m : Form) (s : List ℕ) (r : Range) where
-  pub str-fault : well_formed s ≡ false → input_fault (str m s r) ≡ Some NotUtf8
-  unfolding input_fault
-  str-fault e = rw e
-
-  pub str_fine : well_formed s ≡ true → input_fault (str m s r) ≡ None
-  unfolding input_fault
-  str_fine e = rw e
-
   pub str-cut-start : is_boundary s (saturated s r).start ≡ false → cut_fault (str m s r) ≡ Some NotOnCharBoundary
   unfolding cut_fault
   str-cut-start e = rw e

@@ -1,5 +1,6 @@
 // Strings and characters written at a cursor into a lent buffer, and truncate (fmt/str_writer.rs,
-// fmt/str_writer_mut.rs).
+// fmt/str_writer_mut.rs). The functions take the slice and the cursor, as document 01 names the form:
+// a writer that holds both, and few thin functions over these (crate str_writer_mut).
 #![tactic(auto)]
 
 mod cursor;
