@@ -1,2 +1,3 @@
 pub mod Output
 pub mod Sequence
+pub mod Held
