@@ -3,40 +3,36 @@ use mathlib.Core.Bool.{Bool, true, false, cond}
 use mathlib.Core.Option.{none, some}
 use mathlib.Core.Path.{◌≡◌, refl, sym}
 use mathlib.Core.List.{List, [], ◌∷◌, ◌++◌}
-use Prim.Native.Nat.{ℕ, ◌+◌, ◌-◌, ◌≤◌}
+use Prim.Native.Nat.{ℕ, ◌-◌, ◌≤◌}
 use native.Mathlib.Omega.{arith}
 use lib.Dec.{ltb}
 use lib.IntN.{ℤ, pos}
 use lib.ListN.{length}
 use lib.Seq.{length-slice}
-use borrow.Author.Tests.{lt-ltb, ltb-false}
+use borrow.Author.Tests.{ltb-false}
 use Rattle.error.specs.declared.Answer.TheVariants.{BadCursor}
 use Rattle.error.specs.declared.Error.{Error}
 use Rattle.error.specs.Errors.{number_of}
 use Rattle.formatting.specs.declared.flags.FormattingFlags.{FormattingFlags}
 use Rattle.formatting.specs.declared.flags.NumberFormatting.{NumberFormatting}
 use Rattle.formatting.specs.declared.flags.NumberFormatting.TheVariants.{Decimal, Hexadecimal, Binary}
-use Rattle.formatting.specs.Escape.{quoted}
 use Rattle.utils.specs.declared.Range.{Range}
 use Rattle.utils.specs.Text.{saturated, part}
-use Rattle.pwrapper.specs.declared.quoted.DebugLen.{DebugLen}
 use Rattle.pwrapper.specs.Number.{decimal, display_text, twos_complement, debug_in, debug_parts}
-use Rattle.pwrapper.specs.QuotedCount.{count_of}
 use Rattle.str_writer.specs.Value.{Form, display, debug, Value, integer, text_of, input_fault, cut_fault}
 use Rattle.str_writer.specs.declared.piece.Written.{Written}
 use Rattle.str_writer.specs.Write.{outcome}
 use Rattle.str_writer.specs.Write.{put as put_text}
 use Rattle.pwrapper.proofs.Ranges.{clamped_end}
-use Rattle.calls.specs.Call.{fault_number, hold}
-use Rattle.calls.specs.Model.{Mode, counting, writing, to, most, put_in, put, cut_in, beyond}
+use Rattle.calls.specs.Call.{fault_number}
+use Rattle.calls.specs.Model.{Mode, counting, writing, to, put, beyond}
 use Rattle.writer_backend.specs.declared.pieces.WriterBackend.{WriterBackend}
-use Rattle.quoted_writes.proofs.Quoting.{count-above}
 use Rattle.value_writes.specs.declared.Integer.{Integer}
 use Rattle.value_writes.specs.declared.Integer.TheVariants.{Unsigned, Signed}
 use Rattle.value_writes.specs.declared.Parts.{Parts}
 use Rattle.writer_backend.specs.Output.{mode_of, is_counting, moved_by, output_of}
 use Rattle.writer_backend.proofs.Output.{writes, written}
-use Rattle.writer_backend.proofs.Sequence.{error_number, hold-zero}
+use Rattle.writer_backend.proofs.Sequence.{error_number}
 use Rattle.value_writes.specs.Values.{bits_of, integer_of, heeded_by, text_of_parts, judged_in, value_out}
 
 -- a value is judged by its input, then, in writing, by its range
@@ -50,13 +46,9 @@ module _ (m : Mode) (v : Value) where
   pub judged_writing : {n : ℕ} → m ≡ writing n → 0 ≡ fault_number (input_fault v) → fault_number (cut_fault v) ≡ judged_in m v
   judged_writing q p = rw (← p, q)
 
-  -- one that no range cuts
-  pub judged_uncut : cut_fault v ≡ none → fault_number (input_fault v) ≡ judged_in m v
-  judged_uncut u = rw u (go m)
-    where
-      go : (m : Mode) → fault_number (input_fault v) ≡ hold (fault_number (input_fault v)) (cut_in m 0)
-      go (counting n) = sym (hold-zero (fault_number (input_fault v)))
-      go (writing p) = sym (hold-zero (fault_number (input_fault v)))
+judged_uncut : (m : Mode) (v : Value) → cut_fault v ≡ none → 0 ≡ fault_number (input_fault v) → 0 ≡ judged_in m v
+judged_uncut (counting n) v u p = rw (← p)
+judged_uncut (writing n) v u p = rw (← p, u)
 
 -- what a value answers: 9 before all, then a fault that it meets, else its text is counted or placed
 module _ (w : WriterBackend) (b : List ℕ) (f : FormattingFlags) (v : Value) where
@@ -73,6 +65,13 @@ module _ (w : WriterBackend) (b : List ℕ) (f : FormattingFlags) (v : Value) wh
     unfolding value_out
     value-emitted p = rw (h, ← p)
 
+    -- by its input alone, and where no range cuts it
+    pub input-refused : (e : Error) → number_of e ≡ fault_number (input_fault v) → to (mode_of w) b (number_of e) ≡ value_out w b f v
+    input-refused e p = value-refused e (judged_input (mode_of w) v e p)
+
+    pub uncut-emitted : cut_fault v ≡ none → 0 ≡ fault_number (input_fault v) → put (output_of w b) (text_of f v) ≡ value_out w b f v
+    uncut-emitted u p = value-emitted (judged_uncut (mode_of w) v u p)
+
 -- a single write at a cursor that does not meet 9, as a piece
 pub written_within : (w : WriterBackend) {r : Bool} → r ≡ is_counting (mode_of w) → r ≡ false → (b : List ℕ) → beyond (mode_of w) b ≡ 0 → {b' : List ℕ} (t : List ℕ) (x : Written) → outcome x b' ≡ put_text b w.number t → moved_by (mode_of w) b' x ≡ put (output_of w b) t
 written_within w e q b h t x = written w e q b t x (by_test (ltb (length b) w.number) refl (rw (writes w e q) at h))
@@ -82,18 +81,18 @@ written_within w e q b h t x = written w e q b t x (by_test (ltb (length b) w.nu
     by_test false e z = ltb-false (length b) w.number e
 
 -- what holds of every integer, of any width, holds of one by its type
-pub by_type : (P : Value → Type 0) (m : Form) → ((k : ℕ) (z : ℤ) → P (integer m k z)) → (x : Integer) → P (integer_of m x)
+by_type : (P : Value → Type 0) (m : Form) → ((k : ℕ) (z : ℤ) → P (integer m k z)) → (x : Integer) → P (integer_of m x)
 by_type P m h (Unsigned w n) = h (bits_of w) (pos n)
 by_type P m h (Signed w z) = h (bits_of w) z
 
 -- an integer meets nothing
-pub integer_input : (m : Form) (x : Integer) → 0 ≡ fault_number (input_fault (integer_of m x))
+pub integer_input : (m : Form) (x : Integer) → input_fault (integer_of m x) ≡ none
 unfolding input_fault
-integer_input m x = by_type (λ v. 0 ≡ fault_number (input_fault v)) m (λ k z. refl) x
+integer_input m x = by_type (λ v. input_fault v ≡ none) m (λ k z. refl) x
 
-pub integer_cut : (m : Form) (x : Integer) → 0 ≡ fault_number (cut_fault (integer_of m x))
+pub integer_uncut : (m : Form) (x : Integer) → cut_fault (integer_of m x) ≡ none
 unfolding cut_fault
-integer_cut m x = by_type (λ v. 0 ≡ fault_number (cut_fault v)) m (λ k z. refl) x
+integer_uncut m x = by_type (λ v. cut_fault v ≡ none) m (λ k z. refl) x
 
 -- an integer's text by the flags that it heeds: its display form is decimal, its debug form by the flags
 pub integer-text : (m : Form) (f : FormattingFlags) (k : ℕ) (z : ℤ) (p : Parts) → p.flags ≡ heeded_by m f → display_text z ≡ cond p.is_negative (45 ∷ []) [] ++ decimal p.n → twos_complement k z ≡ p.bits → text_of f (integer m k z) ≡ text_of_parts p
