@@ -8,16 +8,18 @@ use native.Mathlib.Omega.{arith}
 use lib.Dec.{ltb}
 use lib.ListN.{length}
 use borrow.Author.Tests.{le-ltb, ltb-false}
-use Rattle.std.proofs.Common.{Option, Ok, Err}
+use Rattle.std.proofs.Common.{Option, Some, None, Ok, Err}
+use Rattle.std.specs.Option.{unwrap_or}
 use Rattle.std.specs.Result.{is_ok}
 use Rattle.calls.specs.declared.Kind.{Kind}
 use Rattle.calls.specs.Call.{Place, separator, place_pieces, label_pieces, hold}
 use Rattle.error.specs.declared.Error.{Error}
 use Rattle.error.specs.declared.Error.TheVariants.{NotEnoughSpace, NotAscii, NotOnCharBoundary, NotUtf8, NotAChar, CountTooLarge, TooDeep, WrongCall, BadCursor}
-use Rattle.error.specs.Errors.{Answer, number_of}
-use Rattle.calls.specs.Model.{Output, PieceOutcome, counting, to, most, put, tries}
+use Rattle.error.specs.Errors.{Answer, number_of, answer_number}
+use Rattle.calls.specs.Model.{Mode, Output, PieceOutcome, counting, writing, to, most, wrote, put_in, put, tries}
 use Rattle.writer_backend.specs.declared.pieces.WriterBackend.{WriterBackend}
-use Rattle.writer_backend.specs.Output.{mode_of, added, output_of, put_out, held_number, held_out}
+use Rattle.writer_backend.specs.Output.{mode_of, added, output_of, put_out, held_of, held_number, held_out}
+use Rattle.str_writer.specs.Write.{Outcome, placed}
 use Rattle.writer_backend.specs.Pieces.{try_on, try_all, length_of, margin_pieces}
 
 hold-hold : (a b c : ℕ) → hold (hold a b) c ≡ hold a (hold b c)
@@ -38,6 +40,26 @@ module _ (k : Kind) (n : ℕ) (x : Place) where
 
   pub pieces-tried : (p : PieceOutcome) (has alt : Bool) {s : List ℕ} {a b r : PieceOutcome} → s ≡ separator k has alt → a ≡ try_on p s → b ≡ try_all a (margin_pieces alt n) → r ≡ try_all b (label_pieces x) → r ≡ try_all p (place_pieces k has alt n x)
   pieces-tried p has alt e f g h = rw (h, g, f, e) (pieces_by p has alt)
+
+-- a piece answers 0, 1 or 6: what a builder holds of it is what it answers
+abbrev wrote_number : Outcome → ℕ
+wrote_number o = (wrote o).answer
+
+pub put_held : (d : Output) (t : List ℕ) → held_of (put d t).answer ≡ (put d t).answer
+unfolding placed
+put_held d t = by_mode d.mode
+  where
+    counted : (x : Bool) (m n : Mode) → held_of (cond x (to m d.bytes 6) (to n d.bytes 0)).answer ≡ (cond x (to m d.bytes 6) (to n d.bytes 0)).answer
+    counted true m n = refl
+    counted false m n = refl
+
+    written : (x : Bool) (o p : Outcome) → wrote_number o ≡ 1 → wrote_number p ≡ 0 → held_of (wrote (cond x o p)).answer ≡ (wrote (cond x o p)).answer
+    written true o p e f = rw e
+    written false o p e f = rw f
+
+    by_mode : (m : Mode) → held_of (put_in m d.bytes t).answer ≡ (put_in m d.bytes t).answer
+    by_mode (counting n) = counted (ltb most (n + length t)) (counting n) (counting (n + length t))
+    by_mode (writing c) = written (ltb (length d.bytes) (c + length t)) _ _ refl refl
 
 -- pieces tried by a total that has room for them all add the sum of their lengths
 counted : (n : ℕ) (b : List ℕ) (a : ℕ) (ss : List (List ℕ)) → n + length_of ss ≤ most → try_all (to (counting n) b a) ss ≡ to (counting (n + length_of ss)) b a
@@ -90,3 +112,19 @@ tried a d [] = λ i. record { answer = sym (hold-zero a) i; output = d }
 tried a d (s ∷ ss) =
     tried (hold a (put d s).answer) (put d s).output ss
     ∙ λ i. record { answer = hold-hold a (put d s).answer (tries (put d s).output ss).answer i; output = (tries (put d s).output ss).output }
+
+-- the first refusal is held
+pub first_held : (h : Option Error) (e x : Error) → x ≡ unwrap_or h e → held_number (Some x) ≡ hold (held_number h) (held_of (number_of e))
+first_held None e x p = rw p
+first_held (Some y) e x p = rw (p, error_number y) (above (number_of y - 1) (held_of (number_of e)))
+  where
+    above : (n a : ℕ) → held_of (suc n) ≡ hold (held_of (suc n)) a
+    above zero a = refl
+    above (suc n) a = refl
+
+-- a piece tried after others: the first refusal is held
+pub holds_tried : (h h' : Option Error) (w w' : WriterBackend) (b b' s : List ℕ) (r : Answer) → put_out r w' b' ≡ put (output_of w b) s → held_number h' ≡ hold (held_number h) (held_of (answer_number r)) → held_out h' w' b' ≡ try_on (held_out h w b) s
+unfolding try_on
+holds_tried h h' w w' b b' s r e q =
+    let q' : answer_number r ≡ (put (output_of w b) s).answer = ap (λ (o : PieceOutcome). o.answer) e in
+    rw (← e, q) (ap (λ x. record { answer = hold (held_number h) x; output = output_of w' b' }) (rw q' (put_held (output_of w b) s)))

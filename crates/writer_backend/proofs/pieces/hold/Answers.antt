@@ -1,4 +1,4 @@
-use Rattle.writer_backend.proofs.Held.{first_held}
+use Rattle.writer_backend.proofs.Sequence.{first_held}
 use Rattle.writer_backend.proofs.pieces.hold.Goals as goal
 
 pub returns-in-Err : goal.returns-in-Err

@@ -1,4 +1,4 @@
-use Rattle.writer_backend.proofs.Held.{holds_tried}
+use Rattle.writer_backend.proofs.Sequence.{holds_tried}
 use Rattle.writer_backend.proofs.pieces.WriterBackend.try_put.Goals as goal
 
 pub returns : goal.returns

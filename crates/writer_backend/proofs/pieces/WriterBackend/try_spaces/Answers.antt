@@ -1,5 +1,5 @@
 use Rattle.calls.specs.Call.{spaces}
-use Rattle.writer_backend.proofs.Held.{holds_tried}
+use Rattle.writer_backend.proofs.Sequence.{holds_tried}
 use Rattle.writer_backend.proofs.pieces.WriterBackend.try_spaces.Goals as goal
 
 pub returns : goal.returns
