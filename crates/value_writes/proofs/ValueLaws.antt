@@ -1,15 +1,14 @@
 -- A value judged, then emitted: the fault that it meets, or its text placed or counted; and the parts of its length.
 use mathlib.Core.Bool.{Bool, true, false, cond}
 use mathlib.Core.Option.{none, some}
-use mathlib.Core.Path.{◌≡◌, refl, sym}
+use mathlib.Core.Path.{◌≡◌, refl, sym, ap}
 use mathlib.Core.List.{List, [], ◌∷◌, ◌++◌}
-use Prim.Native.Nat.{ℕ, ◌-◌, ◌≤◌}
+use Prim.Native.Nat.{ℕ, ◌-◌}
 use native.Mathlib.Omega.{arith}
 use lib.Dec.{ltb}
 use lib.IntN.{ℤ, pos}
 use lib.ListN.{length}
 use lib.Seq.{length-slice}
-use borrow.Author.Tests.{ltb-false}
 use Rattle.error.specs.declared.Answer.TheVariants.{BadCursor}
 use Rattle.error.specs.declared.Error.{Error}
 use Rattle.error.specs.Errors.{number_of}
@@ -21,19 +20,19 @@ use Rattle.utils.specs.Text.{saturated, part}
 use Rattle.pwrapper.specs.Number.{decimal, display_text, twos_complement, debug_in, debug_parts}
 use Rattle.str_writer.specs.Value.{Form, display, debug, Value, integer, text_of, input_fault, cut_fault}
 use Rattle.str_writer.specs.declared.piece.Written.{Written}
-use Rattle.str_writer.specs.Write.{outcome}
+use Rattle.str_writer.specs.Write.{Outcome, outcome, placed, unless}
 use Rattle.str_writer.specs.Write.{put as put_text}
 use Rattle.pwrapper.proofs.Ranges.{clamped_end}
 use Rattle.calls.specs.Call.{fault_number}
-use Rattle.calls.specs.Model.{Mode, counting, writing, to, put, beyond}
+use Rattle.calls.specs.Model.{Mode, counting, writing, to, wrote, put_in, beyond}
 use Rattle.writer_backend.specs.declared.pieces.WriterBackend.{WriterBackend}
 use Rattle.value_writes.specs.declared.Integer.{Integer}
 use Rattle.value_writes.specs.declared.Integer.TheVariants.{Unsigned, Signed}
 use Rattle.value_writes.specs.declared.Parts.{Parts}
-use Rattle.writer_backend.specs.Output.{mode_of, is_counting, moved_by, output_of}
-use Rattle.writer_backend.proofs.Output.{writes, written}
+use Rattle.writer_backend.specs.Output.{mode_of, is_counting, moved_by, added, output_of}
+use Rattle.writer_backend.proofs.Output.{counts, writes}
 use Rattle.writer_backend.proofs.Sequence.{error_number}
-use Rattle.value_writes.specs.Values.{bits_of, integer_of, heeded_by, text_of_parts, judged_in, value_out}
+use Rattle.value_writes.specs.Values.{bits_of, integer_of, heeded_by, text_of_parts, unless_fault, judged_in, emitted, value_judged, value_out}
 
 -- a value is judged by its input, then, in writing, by its range
 module _ (m : Mode) (v : Value) where
@@ -50,35 +49,44 @@ judged_uncut : (m : Mode) (v : Value) → cut_fault v ≡ none → 0 ≡ fault_n
 judged_uncut (counting n) v u p = rw (← p)
 judged_uncut (writing n) v u p = rw (← p, u)
 
--- what a value answers: 9 before all, then a fault that it meets, else its text is counted or placed
+-- a text whose length is added, or that a single write puts
+module _ (w : WriterBackend) {r : Bool} (e : r ≡ is_counting (mode_of w)) where
+  pub emits_len : r ≡ true → (b t : List ℕ) {n : ℕ} → n ≡ length t → added (mode_of w) b n ≡ emitted (mode_of w) b t
+  emits_len q b t l = rw (counts w e q, l)
+
+  pub emits : r ≡ false → (b : List ℕ) {b' : List ℕ} (t : List ℕ) (x : Written) → outcome x b' ≡ put_text b w.number t → moved_by (mode_of w) b' x ≡ emitted (mode_of w) b t
+  emits q b t x p = rw (writes w e q) (ap wrote p)
+
+-- what a value answers: 9 before all, then a fault that it meets, else its text is emitted
 module _ (w : WriterBackend) (b : List ℕ) (f : FormattingFlags) (v : Value) where
   pub value_past : (e : Error) → number_of e ≡ beyond (mode_of w) b → to (mode_of w) b (number_of e) ≡ value_out w b f v
   unfolding value_out
   value_past e p = rw (← p, error_number e)
 
-  module _ (h : beyond (mode_of w) b ≡ 0) where
-    pub value-refused : (e : Error) → number_of e ≡ judged_in (mode_of w) v → to (mode_of w) b (number_of e) ≡ value_out w b f v
-    unfolding value_out
-    value-refused e p = rw (h, ← p, error_number e)
+  pub value_within : 0 ≡ beyond (mode_of w) b → value_judged w b f v ≡ value_out w b f v
+  unfolding value_out put_text
+  value_within p = rw (← p) (ap (unless_fault (judged_in (mode_of w) v) (output_of w b)) (by_mode (mode_of w) p))
+    where
+      by_test : (c : Bool) (n : ℕ) (o : Outcome) → 0 ≡ fault_number (cond c (some BadCursor) none) → wrote (unless (cond c (some BadCursor) none) b n o) ≡ wrote o
+      by_test true n o z = absurd (omega (arith, z))
+      by_test false n o z = refl
 
-    pub value-emitted : 0 ≡ judged_in (mode_of w) v → put (output_of w b) (text_of f v) ≡ value_out w b f v
-    unfolding value_out
-    value-emitted p = rw (h, ← p)
+      by_mode : (m : Mode) → 0 ≡ beyond m b → emitted m b (text_of f v) ≡ put_in m b (text_of f v)
+      by_mode (counting n) z = refl
+      by_mode (writing n) z = by_test (ltb (length b) n) n (placed b n (text_of f v)) z
 
-    -- by its input alone, and where no range cuts it
-    pub input-refused : (e : Error) → number_of e ≡ fault_number (input_fault v) → to (mode_of w) b (number_of e) ≡ value_out w b f v
-    input-refused e p = value-refused e (judged_input (mode_of w) v e p)
+  pub judged-refused : (e : Error) → number_of e ≡ judged_in (mode_of w) v → to (mode_of w) b (number_of e) ≡ value_judged w b f v
+  judged-refused e p = rw (← p, error_number e)
 
-    pub uncut-emitted : cut_fault v ≡ none → 0 ≡ fault_number (input_fault v) → put (output_of w b) (text_of f v) ≡ value_out w b f v
-    uncut-emitted u p = value-emitted (judged_uncut (mode_of w) v u p)
+  pub judged-emitted : 0 ≡ judged_in (mode_of w) v → emitted (mode_of w) b (text_of f v) ≡ value_judged w b f v
+  judged-emitted p = rw (← p)
 
--- a single write at a cursor that does not meet 9, as a piece
-pub written_within : (w : WriterBackend) {r : Bool} → r ≡ is_counting (mode_of w) → r ≡ false → (b : List ℕ) → beyond (mode_of w) b ≡ 0 → {b' : List ℕ} (t : List ℕ) (x : Written) → outcome x b' ≡ put_text b w.number t → moved_by (mode_of w) b' x ≡ put (output_of w b) t
-written_within w e q b h t x = written w e q b t x (by_test (ltb (length b) w.number) refl (rw (writes w e q) at h))
-  where
-    by_test : (t : Bool) → ltb (length b) w.number ≡ t → fault_number (cond t (some BadCursor) none) ≡ 0 → w.number ≤ length b
-    by_test true e z = absurd (omega (arith, z))
-    by_test false e z = ltb-false (length b) w.number e
+  -- by its input alone, and where no range cuts it
+  pub input-refused : (e : Error) → number_of e ≡ fault_number (input_fault v) → to (mode_of w) b (number_of e) ≡ value_judged w b f v
+  input-refused e p = judged-refused e (judged_input (mode_of w) v e p)
+
+  pub uncut-emitted : cut_fault v ≡ none → 0 ≡ fault_number (input_fault v) → emitted (mode_of w) b (text_of f v) ≡ value_judged w b f v
+  uncut-emitted u p = judged-emitted (judged_uncut (mode_of w) v u p)
 
 -- what holds of every integer, of any width, holds of one by its type
 by_type : (P : Value → Type 0) (m : Form) → ((k : ℕ) (z : ℤ) → P (integer m k z)) → (x : Integer) → P (integer_of m x)

@@ -10,10 +10,10 @@ use Rattle.value_writes.proofs.put_ascii.Goals as goal
 pub returns-in_err-of_answer : goal.returns-in_err-of_answer
 returns-in_err-of_answer c f = let a = c.args in
     let p = err_from_is_err_and c.from_residual.result c.from_residual.ensures.1 in
-    rw (p.1, p.2) (input-refused a.writer.now a.buf.now f (ascii (form_of a.form) a.s.now a.range) c.requires _ (c.in_err-of_answer.ensures ∙ ap number_of (c.ascii_fault.ensures (form_of a.form) a.range)))
+    rw (p.1, p.2) (input-refused a.writer.now a.buf.now f (ascii (form_of a.form) a.s.now a.range) _ (c.in_err-of_answer.ensures ∙ ap number_of (c.ascii_fault.ensures (form_of a.form) a.range)))
 
 pub returns : goal.returns
 unfolding text_of
 returns c f = let a = c.args in
     c.put_string.ensures
-    ∙ uncut-emitted a.writer.now a.buf.now f (ascii (form_of a.form) a.s.now a.range) c.requires (ascii_uncut (form_of a.form) a.s.now a.range) (c.in_ok-of_answer.ensures ∙ ap number_of (c.ascii_fault.ensures (form_of a.form) a.range))
+    ∙ uncut-emitted a.writer.now a.buf.now f (ascii (form_of a.form) a.s.now a.range) (ascii_uncut (form_of a.form) a.s.now a.range) (c.in_ok-of_answer.ensures ∙ ap number_of (c.ascii_fault.ensures (form_of a.form) a.range))
