@@ -159,7 +159,8 @@ pub fn greatest(width: Width) -> u64
     }
 }
 
-// The two's complement at a width.
+// The two's complement at a width, by the sum that document 01 has: a cast would take the last bits of
+// a number that does not fit the width, which has another text.
 fn bits_at(width: Width, x: i64) -> u64
     ensures { result ≡ twos_complement (bits_of width) x }
 {
