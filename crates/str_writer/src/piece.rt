@@ -35,14 +35,6 @@ fn copy_few(buf: &mut [u8], at: usize, s: &[u8])
     buf[at + 3] = s[3];
 }
 
-// Copies s with one memcpy.
-fn copy_many(buf: &mut [u8], at: usize, s: &[u8])
-    requires { at + length s.now ≤ length buf.old }
-    ensures { buf.new ≡ splice buf.old at s.now }
-{
-    buf[at..at + s.len()].copy_from_slice(s);
-}
-
 // Copies s into buf from at on.
 fn copy_at(buf: &mut [u8], at: usize, s: &[u8])
     requires { at + length s.now ≤ length buf.old }
@@ -52,7 +44,7 @@ fn copy_at(buf: &mut [u8], at: usize, s: &[u8])
         copy_few(buf, at, s);
         return;
     }
-    copy_many(buf, at, s);
+    buf[at..at + s.len()].copy_from_slice(s);
 }
 
 // Writes s at the cursor, or leaves the buffer as it is.
