@@ -13,20 +13,6 @@ use Rattle.value_writes.specs.declared.Width.TheVariants.{W8, W16, W32, W64}
 use Rattle.value_writes.specs.Values.{bits_of}
 use Rattle.encoded_call.specs.Encoding.{width_at, signed_at}
 
--- past the numbers before the last, the last
-pub last_width : (n : ℕ) → (n ≡ 0 → ⊥) → (n ≡ 1 → ⊥) → (n ≡ 2 → ⊥) → W64 ≡ width_at n
-last_width zero p q r = absurd (p refl)
-last_width (suc zero) p q r = absurd (q refl)
-last_width (suc (suc zero)) p q r = absurd (r refl)
-last_width (suc (suc (suc n))) p q r = refl
-
--- whether a number has no more bits than a width, whose greatest number is g
-pub within : {w : Width} {g a : ℕ} (b : ℕ) → w ≡ width_at b → g + 1 ≡ 2 ^ bits_of w → a ≤ g → ltb a (2 ^ bits_of (width_at b)) ≡ true
-within {w} {g} {a} b p e h = rw (← p) (lt-ltb a (2 ^ bits_of w) (omega arith))
-
-pub beyond : {w : Width} {g a : ℕ} (b : ℕ) → w ≡ width_at b → g + 1 ≡ 2 ^ bits_of w → g < a → ltb a (2 ^ bits_of (width_at b)) ≡ false
-beyond {w} {g} {a} b p e h = rw (← p) (le-ltb a (2 ^ bits_of w) (omega arith))
-
 pub half : (w : Width) → 2 ^ bits_of w ≡ 2 * 2 ^ (bits_of w - 1)
 half W8 = refl
 half W16 = refl
