@@ -21,7 +21,13 @@ fn written<I: IntegerValue>(
 }
 
 // n as a value of the unsigned type at place t.
-fn unsigned(fmt: &mut Formatter, buf: &mut [u8], form: Form, t: usize, n: u64) -> Option<Result<(), Error>> {
+fn unsigned(
+    fmt: &mut Formatter,
+    buf: &mut [u8],
+    form: Form,
+    t: usize,
+    n: u64,
+) -> Option<Result<(), Error>> {
     match t {
         0 => written(fmt, buf, form, u8::try_from(n)),
         1 => written(fmt, buf, form, u16::try_from(n)),
@@ -31,7 +37,13 @@ fn unsigned(fmt: &mut Formatter, buf: &mut [u8], form: Form, t: usize, n: u64) -
 }
 
 // x as a value of the signed type at place t.
-fn signed(fmt: &mut Formatter, buf: &mut [u8], form: Form, t: usize, x: i64) -> Option<Result<(), Error>> {
+fn signed(
+    fmt: &mut Formatter,
+    buf: &mut [u8],
+    form: Form,
+    t: usize,
+    x: i64,
+) -> Option<Result<(), Error>> {
     match t {
         4 => written(fmt, buf, form, i8::try_from(x)),
         5 => written(fmt, buf, form, i16::try_from(x)),

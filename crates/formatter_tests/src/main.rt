@@ -34,7 +34,10 @@ impl Pair {
     fn new(settings: Settings, buf: &[u8], at: usize) -> Pair {
         let (writing, written) = match Formatter::writing(buf, at, settings) {
             Ok(writing) => (writing, Ok(())),
-            Err(error) => (Formatter::new(WriterBackend::writing(at), settings), Err(error)),
+            Err(error) => (
+                Formatter::new(WriterBackend::writing(at), settings),
+                Err(error),
+            ),
         };
         Pair {
             counting: Formatter::counting(settings),

@@ -40,12 +40,7 @@ fn make_calls(fmt: &mut Formatter, buf: &mut [u8], calls: &[u8]) -> Option<Resul
 }
 
 // Makes the calls of a line as often as n says: the last answer.
-fn repeat(
-    fmt: &mut Formatter,
-    buf: &mut [u8],
-    calls: &[u8],
-    n: u64,
-) -> Option<Result<(), Error>> {
+fn repeat(fmt: &mut Formatter, buf: &mut [u8], calls: &[u8], n: u64) -> Option<Result<(), Error>> {
     let mut last = None;
     for _ in 0..n {
         last = make_calls(fmt, buf, calls);
