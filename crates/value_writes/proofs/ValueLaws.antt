@@ -1,43 +1,38 @@
 -- A value judged, then emitted: the fault that it meets, or its text placed or counted; and the parts of its length.
 use mathlib.Core.Bool.{Bool, true, false, cond}
 use mathlib.Core.Option.{none, some}
-use mathlib.Core.Path.{◌≡◌, refl, sym}
+use mathlib.Core.Path.{◌≡◌, refl, sym, ap}
 use mathlib.Core.List.{List, [], ◌∷◌, ◌++◌}
-use Prim.Native.Nat.{ℕ, ◌+◌, ◌-◌, ◌≤◌}
+use Prim.Native.Nat.{ℕ, ◌-◌}
 use native.Mathlib.Omega.{arith}
 use lib.Dec.{ltb}
 use lib.IntN.{ℤ, pos}
 use lib.ListN.{length}
 use lib.Seq.{length-slice}
-use borrow.Author.Tests.{lt-ltb, ltb-false}
 use Rattle.error.specs.declared.Answer.TheVariants.{BadCursor}
 use Rattle.error.specs.declared.Error.{Error}
 use Rattle.error.specs.Errors.{number_of}
 use Rattle.formatting.specs.declared.flags.FormattingFlags.{FormattingFlags}
 use Rattle.formatting.specs.declared.flags.NumberFormatting.{NumberFormatting}
 use Rattle.formatting.specs.declared.flags.NumberFormatting.TheVariants.{Decimal, Hexadecimal, Binary}
-use Rattle.formatting.specs.Escape.{quoted}
 use Rattle.utils.specs.declared.Range.{Range}
 use Rattle.utils.specs.Text.{saturated, part}
-use Rattle.pwrapper.specs.declared.quoted.DebugLen.{DebugLen}
 use Rattle.pwrapper.specs.Number.{decimal, display_text, twos_complement, debug_in, debug_parts}
-use Rattle.pwrapper.specs.QuotedCount.{count_of}
 use Rattle.str_writer.specs.Value.{Form, display, debug, Value, integer, text_of, input_fault, cut_fault}
 use Rattle.str_writer.specs.declared.piece.Written.{Written}
-use Rattle.str_writer.specs.Write.{outcome}
+use Rattle.str_writer.specs.Write.{Outcome, outcome, placed, unless}
 use Rattle.str_writer.specs.Write.{put as put_text}
 use Rattle.pwrapper.proofs.Ranges.{clamped_end}
-use Rattle.calls.specs.Call.{fault_number, hold}
-use Rattle.calls.specs.Model.{Mode, counting, writing, to, most, put_in, put, cut_in, beyond}
+use Rattle.calls.specs.Call.{fault_number}
+use Rattle.calls.specs.Model.{Mode, counting, writing, to, wrote, put_in, beyond}
 use Rattle.writer_backend.specs.declared.pieces.WriterBackend.{WriterBackend}
-use Rattle.quoted_writes.proofs.Quoting.{count-above}
 use Rattle.value_writes.specs.declared.Integer.{Integer}
 use Rattle.value_writes.specs.declared.Integer.TheVariants.{Unsigned, Signed}
 use Rattle.value_writes.specs.declared.Parts.{Parts}
-use Rattle.writer_backend.specs.Output.{mode_of, is_counting, moved_by, output_of}
-use Rattle.writer_backend.proofs.Output.{writes, written}
-use Rattle.writer_backend.proofs.Sequence.{error_number, hold-zero}
-use Rattle.value_writes.specs.Values.{bits_of, integer_of, heeded_by, text_of_parts, judged_in, value_out}
+use Rattle.writer_backend.specs.Output.{mode_of, is_counting, moved_by, added, output_of}
+use Rattle.writer_backend.proofs.Output.{counts, writes}
+use Rattle.writer_backend.proofs.Sequence.{error_number}
+use Rattle.value_writes.specs.Values.{bits_of, integer_of, heeded_by, text_of_parts, unless_fault, judged_in, emitted, value_judged, value_out}
 
 -- a value is judged by its input, then, in writing, by its range
 module _ (m : Mode) (v : Value) where
@@ -50,50 +45,62 @@ module _ (m : Mode) (v : Value) where
   pub judged_writing : {n : ℕ} → m ≡ writing n → 0 ≡ fault_number (input_fault v) → fault_number (cut_fault v) ≡ judged_in m v
   judged_writing q p = rw (← p, q)
 
-  -- one that no range cuts
-  pub judged_uncut : cut_fault v ≡ none → fault_number (input_fault v) ≡ judged_in m v
-  judged_uncut u = rw u (go m)
-    where
-      go : (m : Mode) → fault_number (input_fault v) ≡ hold (fault_number (input_fault v)) (cut_in m 0)
-      go (counting n) = sym (hold-zero (fault_number (input_fault v)))
-      go (writing p) = sym (hold-zero (fault_number (input_fault v)))
+judged_uncut : (m : Mode) (v : Value) → cut_fault v ≡ none → 0 ≡ fault_number (input_fault v) → 0 ≡ judged_in m v
+judged_uncut (counting n) v u p = rw (← p)
+judged_uncut (writing n) v u p = rw (← p, u)
 
--- what a value answers: 9 before all, then a fault that it meets, else its text is counted or placed
+-- a text whose length is added, or that a single write puts
+module _ (w : WriterBackend) {r : Bool} (e : r ≡ is_counting (mode_of w)) where
+  pub emits_len : r ≡ true → (b t : List ℕ) {n : ℕ} → n ≡ length t → added (mode_of w) b n ≡ emitted (mode_of w) b t
+  emits_len q b t l = rw (counts w e q, l)
+
+  pub emits : r ≡ false → (b : List ℕ) {b' : List ℕ} (t : List ℕ) (x : Written) → outcome x b' ≡ put_text b w.number t → moved_by (mode_of w) b' x ≡ emitted (mode_of w) b t
+  emits q b t x p = rw (writes w e q) (ap wrote p)
+
+-- what a value answers: 9 before all, then a fault that it meets, else its text is emitted
 module _ (w : WriterBackend) (b : List ℕ) (f : FormattingFlags) (v : Value) where
   pub value_past : (e : Error) → number_of e ≡ beyond (mode_of w) b → to (mode_of w) b (number_of e) ≡ value_out w b f v
   unfolding value_out
   value_past e p = rw (← p, error_number e)
 
-  module _ (h : beyond (mode_of w) b ≡ 0) where
-    pub value-refused : (e : Error) → number_of e ≡ judged_in (mode_of w) v → to (mode_of w) b (number_of e) ≡ value_out w b f v
-    unfolding value_out
-    value-refused e p = rw (h, ← p, error_number e)
+  pub value_within : 0 ≡ beyond (mode_of w) b → value_judged w b f v ≡ value_out w b f v
+  unfolding value_out put_text
+  value_within p = rw (← p) (ap (unless_fault (judged_in (mode_of w) v) (output_of w b)) (by_mode (mode_of w) p))
+    where
+      by_test : (c : Bool) (n : ℕ) (o : Outcome) → 0 ≡ fault_number (cond c (some BadCursor) none) → wrote (unless (cond c (some BadCursor) none) b n o) ≡ wrote o
+      by_test true n o z = absurd (omega (arith, z))
+      by_test false n o z = refl
 
-    pub value-emitted : 0 ≡ judged_in (mode_of w) v → put (output_of w b) (text_of f v) ≡ value_out w b f v
-    unfolding value_out
-    value-emitted p = rw (h, ← p)
+      by_mode : (m : Mode) → 0 ≡ beyond m b → emitted m b (text_of f v) ≡ put_in m b (text_of f v)
+      by_mode (counting n) z = refl
+      by_mode (writing n) z = by_test (ltb (length b) n) n (placed b n (text_of f v)) z
 
--- a single write at a cursor that does not meet 9, as a piece
-pub written_within : (w : WriterBackend) {r : Bool} → r ≡ is_counting (mode_of w) → r ≡ false → (b : List ℕ) → beyond (mode_of w) b ≡ 0 → {b' : List ℕ} (t : List ℕ) (x : Written) → outcome x b' ≡ put_text b w.number t → moved_by (mode_of w) b' x ≡ put (output_of w b) t
-written_within w e q b h t x = written w e q b t x (by_test (ltb (length b) w.number) refl (rw (writes w e q) at h))
-  where
-    by_test : (t : Bool) → ltb (length b) w.number ≡ t → fault_number (cond t (some BadCursor) none) ≡ 0 → w.number ≤ length b
-    by_test true e z = absurd (omega (arith, z))
-    by_test false e z = ltb-false (length b) w.number e
+  pub judged-refused : (e : Error) → number_of e ≡ judged_in (mode_of w) v → to (mode_of w) b (number_of e) ≡ value_judged w b f v
+  judged-refused e p = rw (← p, error_number e)
+
+  pub judged-emitted : 0 ≡ judged_in (mode_of w) v → emitted (mode_of w) b (text_of f v) ≡ value_judged w b f v
+  judged-emitted p = rw (← p)
+
+  -- by its input alone, and where no range cuts it
+  pub input-refused : (e : Error) → number_of e ≡ fault_number (input_fault v) → to (mode_of w) b (number_of e) ≡ value_judged w b f v
+  input-refused e p = judged-refused e (judged_input (mode_of w) v e p)
+
+  pub uncut-emitted : cut_fault v ≡ none → 0 ≡ fault_number (input_fault v) → emitted (mode_of w) b (text_of f v) ≡ value_judged w b f v
+  uncut-emitted u p = judged-emitted (judged_uncut (mode_of w) v u p)
 
 -- what holds of every integer, of any width, holds of one by its type
-pub by_type : (P : Value → Type 0) (m : Form) → ((k : ℕ) (z : ℤ) → P (integer m k z)) → (x : Integer) → P (integer_of m x)
+by_type : (P : Value → Type 0) (m : Form) → ((k : ℕ) (z : ℤ) → P (integer m k z)) → (x : Integer) → P (integer_of m x)
 by_type P m h (Unsigned w n) = h (bits_of w) (pos n)
 by_type P m h (Signed w z) = h (bits_of w) z
 
 -- an integer meets nothing
-pub integer_input : (m : Form) (x : Integer) → 0 ≡ fault_number (input_fault (integer_of m x))
+pub integer_input : (m : Form) (x : Integer) → input_fault (integer_of m x) ≡ none
 unfolding input_fault
-integer_input m x = by_type (λ v. 0 ≡ fault_number (input_fault v)) m (λ k z. refl) x
+integer_input m x = by_type (λ v. input_fault v ≡ none) m (λ k z. refl) x
 
-pub integer_cut : (m : Form) (x : Integer) → 0 ≡ fault_number (cut_fault (integer_of m x))
+pub integer_uncut : (m : Form) (x : Integer) → cut_fault (integer_of m x) ≡ none
 unfolding cut_fault
-integer_cut m x = by_type (λ v. 0 ≡ fault_number (cut_fault v)) m (λ k z. refl) x
+integer_uncut m x = by_type (λ v. cut_fault v ≡ none) m (λ k z. refl) x
 
 -- an integer's text by the flags that it heeds: its display form is decimal, its debug form by the flags
 pub integer-text : (m : Form) (f : FormattingFlags) (k : ℕ) (z : ℤ) (p : Parts) → p.flags ≡ heeded_by m f → display_text z ≡ cond p.is_negative (45 ∷ []) [] ++ decimal p.n → twos_complement k z ≡ p.bits → text_of f (integer m k z) ≡ text_of_parts p
@@ -109,7 +116,3 @@ integer-text debug f k z p e t b = rw e (by_format f.num_fmt)
 -- the length of a clamped range
 pub clamped_length : (s : List ℕ) (r q : Range) → q ≡ saturated s r → q.end - q.start ≡ length (part s r)
 clamped_length s r q e = rw e (sym (length-slice (saturated s r).start (saturated s r).end s (clamped_end s r (saturated s r) refl)))
-
--- a quoted text whose count is 0 has more than 2^64 - 1 bytes
-pub quoted-refused : (t : List ℕ) (q : DebugLen) → q ≡ count_of (length (quoted t)) → (n : ℕ) (b : List ℕ) → q.len ≡ 0 → to (counting n) b 6 ≡ put_in (counting n) b (quoted t)
-quoted-refused t q e n b z = rw (lt-ltb most (n + length (quoted t)) (omega (arith, count-above t q e z)))

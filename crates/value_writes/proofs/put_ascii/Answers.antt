@@ -3,20 +3,17 @@ use Rattle.std.proofs.lemmas.Result.{err_from_is_err_and}
 use Rattle.error.specs.Answer.{number_of}
 use Rattle.str_writer.specs.Value.{ascii, text_of}
 use Rattle.str_writer.proofs.Values.{ascii_uncut}
-use Rattle.writer_backend.specs.Output.{mode_of}
 use Rattle.value_writes.specs.Values.{form_of}
-use Rattle.value_writes.proofs.ValueLaws.{judged_input, judged_uncut, value-refused, value-emitted}
+use Rattle.value_writes.proofs.ValueLaws.{input-refused, uncut-emitted}
 use Rattle.value_writes.proofs.put_ascii.Goals as goal
 
 pub returns-in_err-of_answer : goal.returns-in_err-of_answer
 returns-in_err-of_answer c f = let a = c.args in
     let p = err_from_is_err_and c.from_residual.result c.from_residual.ensures.1 in
-    let v = ascii (form_of a.form) a.s.now a.range in
-    rw (p.1, p.2) (value-refused a.writer.now a.buf.now f v c.requires _ (judged_input (mode_of a.writer.now) v _ (c.in_err-of_answer.ensures ∙ ap number_of (c.ascii_fault.ensures (form_of a.form) a.range))))
+    rw (p.1, p.2) (input-refused a.writer.now a.buf.now f (ascii (form_of a.form) a.s.now a.range) _ (c.in_err-of_answer.ensures ∙ ap number_of (c.ascii_fault.ensures (form_of a.form) a.range)))
 
 pub returns : goal.returns
 unfolding text_of
 returns c f = let a = c.args in
-    let v = ascii (form_of a.form) a.s.now a.range in
     c.put_string.ensures
-    ∙ value-emitted a.writer.now a.buf.now f v c.requires (c.in_ok-of_answer.ensures ∙ ap number_of (c.ascii_fault.ensures (form_of a.form) a.range) ∙ judged_uncut (mode_of a.writer.now) v (ascii_uncut (form_of a.form) a.s.now a.range))
+    ∙ uncut-emitted a.writer.now a.buf.now f (ascii (form_of a.form) a.s.now a.range) (ascii_uncut (form_of a.form) a.s.now a.range) (c.in_ok-of_answer.ensures ∙ ap number_of (c.ascii_fault.ensures (form_of a.form) a.range))

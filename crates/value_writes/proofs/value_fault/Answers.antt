@@ -8,7 +8,7 @@ use Rattle.value_writes.proofs.value_fault.Goals as goal
 
 pub returns-in-Int : goal.returns-in-Int
 unfolding input_fault
-returns-in-Int c = elim c.in-Int.is [ inl (m, x, e) ↦ rw e (integer_input (form_of m) x) | inr (k, n, e) ↦ rw e refl ]
+returns-in-Int c = elim c.in-Int.is [ inl (m, x, e) ↦ rw (e, integer_input (form_of m) x) | inr (k, n, e) ↦ rw e refl ]
 
 pub returns-in-Str : goal.returns-in-Str
 unfolding input_fault
