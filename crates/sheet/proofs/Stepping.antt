@@ -11,8 +11,7 @@ use Rattle.std.proofs.lemmas.Option.{none-some, same_Some}
 use Rattle.sheet_line.specs.Reading.{option_from}
 use Rattle.calls.specs.Call.{Call}
 use Rattle.calls.specs.Model.{number_in, step}
-use Rattle.str_writer.specs.declared.piece.Written.{Written}
-use Rattle.str_writer.specs.Write.{outcome, put}
+use Rattle.str_writer.specs.Write.{Written, outcome, put}
 use Rattle.writer_backend.specs.declared.pieces.WriterBackend.{WriterBackend}
 use Rattle.writer_backend.specs.Output.{as_mode, mode_of}
 use Rattle.formatter.specs.Calls.{step_or}

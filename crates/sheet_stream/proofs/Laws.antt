@@ -1,8 +1,8 @@
 -- Laws of a sheet's stages, and of what is printed behind what was printed.
 use mathlib.Core.Bool.{Bool, true, false, cond}
-use mathlib.Core.Path.{◌≡◌, refl, ap, ◌∙◌}
+use mathlib.Core.Path.{◌≡◌, refl, sym, ap, ◌∙◌}
 use mathlib.Core.List.{List, [], ◌∷◌, ◌++◌, append_assoc, append-nil}
-use Rattle.std.specs.Prelude.{Option, Some, None, Ok, Err}
+use Rattle.std.specs.Prelude.{Option, Some, None, Result, Ok, Err}
 use Rattle.std.proofs.lemmas.Option.{none-some, same_Some}
 use Prim.Native.Nat.{ℕ, suc, ◌+◌, ◌-◌, ◌*◌, ◌^◌, ◌≤◌}
 use native.Mathlib.Numerals.{add-one}
@@ -11,8 +11,9 @@ use borrow.Author.Tests.{leb-true}
 use lib.Dec.{ltb, leb}
 use lib.ListN.{length, take, drop, replicate, length-append, length-take}
 use lib.Seq.{take_at, length-take-le}
-use Rattle.str_writer.specs.declared.piece.Written.{Written}
-use Rattle.str_writer.specs.Write.{Outcome, outcome, splice, put}
+use Rattle.std.specs.Result.{result_unwrap_or}
+use Rattle.error.specs.declared.Error.{Error}
+use Rattle.str_writer.specs.Write.{Written, written, Outcome, outcome, splice, put}
 use Rattle.fields.proofs.Cells.{put-fits}
 use Rattle.formatting.specs.Bytes.{bytes}
 use Rattle.fields.specs.Fields.{fields}
@@ -41,6 +42,11 @@ module _ (b : List ℕ) (at : ℕ) (t : List ℕ) (w : Written) (c : List ℕ) (
       let u : c ≡ splice b at t = ap (λ (o : Outcome). o.bytes) (e ∙ put-fits b at t h) in
       let n : length (take at b ++ t) ≡ at + length t = rw (length-append, length-take-le at b (omega arith)) in
       rw (text-end, u) (take_at (take at b ++ t) (drop (at + length t) b) (at + length t) n)
+
+-- a caller that goes on where nothing was printed goes on at the cursor that it had
+pub goes-on : (at : ℕ) (r : Result ℕ Error) {n : ℕ} → n ≡ result_unwrap_or r at → (written at r).at ≡ n
+goes-on at (Ok n) e = sym e
+goes-on at (Err x) e = sym e
 
 -- a line that ends the run
 pub answers-over : (S : Stage) (l out after : List ℕ) (at : ℕ) (t : List ℕ) (w : Written) → ((ls : List (List ℕ)) → left S (l ∷ ls) ≡ t) → outcome w after ≡ put out at t → length t ≤ 105 → at + 105 ≤ length out → Answers S over l out after at w.at
@@ -127,13 +133,13 @@ module _ (k : ℕ) (S : Sheet) (l out after : List ℕ) (at : ℕ) (t : Bool) (S
       record { prints = λ ls. rw (left-next t k S' ls, text-told out at x v after p (omega arith), i, j, append_assoc); short = omega arith }
 
 -- the same, of the part of a buffer that is the run's
-module _ (k n : ℕ) (S S' : code.Sheet) (b x : List ℕ) (r : Answered) (l out after : List ℕ) (at : ℕ) (f : answered r S' x after ≡ answering k (sheet_of S (take n b)) (call_of_line l) out at)
+module _ (k n : ℕ) (S S' : code.Sheet) (b x : List ℕ) (r : Answered) (l out after : List ℕ) (at : ℕ) (f : answered at r S' x after ≡ answering k (sheet_of S (take n b)) (call_of_line l) out at)
     (h : length (stepped k (sheet_of S (take n b)) (call_of_line l)).text ≤ 105) (q : length x ≡ n) (v : at + 105 ≤ length out) where
-  answers-part : Answers (stage_of (Later k n S) b) (cond r.is_call (stage_of (Later (k + 1) n S') (x ++ drop n b)) over) l out after at r.print.at
-  answers-part = rw (take_at x (drop n b) n q) (answers-line k (sheet_of S (take n b)) l out after at r.is_call (sheet_of S' x) r.print f h v)
+  answers-part : Answers (stage_of (Later k n S) b) (cond r.is_call (stage_of (Later (k + 1) n S') (x ++ drop n b)) over) l out after at (written at r.print).at
+  answers-part = rw (take_at x (drop n b) n q) (answers-line k (sheet_of S (take n b)) l out after at r.is_call (sheet_of S' x) (written at r.print) f h v)
 
-  pub answers-later : r.is_call ≡ true → Answers (stage_of (Later k n S) b) (stage_of (Later (k + 1) n S') (x ++ drop n b)) l out after at r.print.at
+  pub answers-later : r.is_call ≡ true → Answers (stage_of (Later k n S) b) (stage_of (Later (k + 1) n S') (x ++ drop n b)) l out after at (written at r.print).at
   answers-later i = rw i at answers-part
 
-  pub answers-last : r.is_call ≡ false → Answers (stage_of (Later k n S) b) over l out after at r.print.at
+  pub answers-last : r.is_call ≡ false → Answers (stage_of (Later k n S) b) over l out after at (written at r.print).at
   answers-last i = rw i at answers-part
