@@ -143,15 +143,6 @@ module _ (b : List ℕ) (from to k : ℕ) (s : List ℕ) (e : s ≡ held from to
   length_part : length s ≡ min (to - from) (length b - from)
   length_part = rw e (length-held b from to)
 
-  pub held-inside : 0 < k → from + k ≤ length b
-  held-inside p = let l = length_part in omega arith
-
-  first-held : take k s ≡ held from (from + k) b
-  first-held =
-      let l = length_part in
-      let z : from + k - from ≡ k = omega arith in
-      rw (e, z) (take-take k (to - from) (drop from b) (omega arith))
-
   rest-held : drop k s ≡ held (from + k) to b
   rest-held =
       let y : to - from - k ≡ to - (from + k) = omega arith in
@@ -173,9 +164,6 @@ feed-none s e = by_test (nat_lt (position_or_len (λ b. b == 10) s) (length s)) 
     by_test false q e = let f = feed-position s in let l = ltb-false _ _ q in omega arith
 
 -- the rest of a line that was too long is left out
-pub skips-none : (r : Reader) (b : List ℕ) → r.skips ≡ false → Skips r r b
-skips-none r b e = record { same = λ limit rest. refl; fewer = omega arith; ended = refl; empty = λ q. absurd (apart r.skips q e) }
-
 module _ (r : Reader) (b s : List ℕ) (k : r.skips ≡ true) (p : s ≡ held_of r b) where
   pub skips-whole : (n : ℕ) → line_feed s ≡ Some n → Skips r (record r { from = r.from + n + 1; skips = false }) b
   skips-whole n e =

@@ -10,14 +10,14 @@ use Rattle.lines.specs.Reading.{ahead, ahead_of, MayFollow, TakesLine, TakesNone
 use Rattle.lines.specs.Played.{At, standing, remains, Over, answers, ends, awaits, Steps, joined, Plays, rests, steps, reads, writes, PlaysRight, BreaksOffRight, MorePlays}
 
 pub apart : (t : Bool) → t ≡ true → t ≡ false → ⊥
-apart t p q = let z : ◌≡◌ {A = ℕ} 0 1 = cc in omega arith
+apart t p q = cc
 
 module _ {S : Type 0} (left : S → List (List ℕ) → List ℕ) (limit : ℕ) where
   -- an input that has ended gives no more pieces
   no_more : {a b : At S} {ins outs : List (List ℕ)} → Plays left limit a ins outs b → a.ended ≡ true → (b.ended ≡ true) × (joined ins ≡ [])
   no_more rests e = (e, refl)
   no_more (steps w t q) e = no_more q (t.ended ∙ e)
-  no_more (reads piece end z q) e = absurd (apart false e refl)
+  no_more (reads piece end z q) e = cc
   no_more (writes q) e = no_more q e
 
   -- from anywhere on, what is written and what then remains is what remained
