@@ -1,4 +1,5 @@
 -- Laws of the lines of an input, and of the bytes that are held of it.
+use Rattle.std.proofs.lemmas.Grind.{common_steps}
 use mathlib.Core.Bool.{Bool, true, false, cond}
 use mathlib.Core.Path.{◌≡◌, refl, ap, sym, ◌∙◌}
 use mathlib.Core.List.{List, [], ◌∷◌, ◌++◌, append-nil}
@@ -6,12 +7,10 @@ use Prim.Native.Nat.{ℕ, zero, suc, ◌+◌, ◌-◌, ◌≤◌, ◌<◌, min}
 use native.Mathlib.Numerals.{add-one}
 use native.Mathlib.Omega.{arith}
 use borrow.Author.Rules.{rules}
-use borrow.Author.Tests.{ltb-true, ltb-false}
 use lib.Dec.{eqb}
 use lib.ListN.{length, take, drop, length-append, length-drop, length-take, drop_of_length-le}
-use lib.Seq.{take-append-le, drop-append-le, drop-append_seam, take_all, length-take-le, take-nil, take-take, drop-drop}
-use Rattle.std.specs.Prelude.{Some, None, ◌==◌, nat_lt}
-use Rattle.std.proofs.lemmas.Option.{none-some}
+use lib.Seq.{take-append-le, drop-append-le, drop-append_seam, take_all, length-take-le, take-take, drop-drop}
+use Rattle.std.specs.Prelude.{Some, None, ◌==◌}
 use Rattle.std.specs.List.{position_or_len}
 use Rattle.std.proofs.lemmas.List.Recursion.{is_position_or_len}
 use Rattle.std.proofs.lemmas.List.Sums.{prefix_len-le-length}
@@ -37,11 +36,7 @@ feed_le s = rw feed-position (prefix_len-le-length _ s)
 lines-first : (s : List ℕ) → 0 < length s → lines_of s ≡ take (feed s) s ∷ lines_of (drop (feed s + 1) s)
 unfolding feed lines_of
 lines-first [] h = absurd (omega arith)
-lines-first (a ∷ []) h = by_test (eqb a 10)
-  where
-    by_test : (t : Bool) → cond t ([] ∷ []) (longer a []) ≡ take (cond t 0 1) (a ∷ []) ∷ lines_of (drop (cond t 0 1 + 1) (a ∷ []))
-    by_test true = refl
-    by_test false = refl
+lines-first (a ∷ []) h = grind (arith, common_steps)
 lines-first (a ∷ b ∷ s) h = by_test (eqb a 10) (lines-first (b ∷ s) (omega arith))
   where
     by_test : (t : Bool) → lines_of (b ∷ s) ≡ take (feed (b ∷ s)) (b ∷ s) ∷ lines_of (drop (feed (b ∷ s) + 1) (b ∷ s))
@@ -53,36 +48,22 @@ lines-first (a ∷ b ∷ s) h = by_test (eqb a 10) (lines-first (b ∷ s) (omega
 feed_kept : (s t : List ℕ) → feed s < length s → feed (s ++ t) ≡ feed s
 unfolding feed
 feed_kept [] t h = absurd (omega arith)
-feed_kept (a ∷ s) t h = by_test (eqb a 10) (feed_kept s t) h
-  where
-    by_test : (x : Bool) → (feed s < length s → feed (s ++ t) ≡ feed s) → cond x 0 (suc (feed s)) < suc (length s) → cond x 0 (suc (feed (s ++ t))) ≡ cond x 0 (suc (feed s))
-    by_test true f h = refl
-    by_test false f h = rw (f (omega arith))
+feed_kept (a ∷ s) t h = grind (arith, common_steps, feed_kept s t)
 
 feed_grows : (s t : List ℕ) → feed s ≤ feed (s ++ t)
 unfolding feed
 feed_grows [] t = omega arith
-feed_grows (a ∷ s) t = by_test (eqb a 10) (feed_grows s t)
-  where
-    by_test : (x : Bool) → feed s ≤ feed (s ++ t) → cond x 0 (suc (feed s)) ≤ cond x 0 (suc (feed (s ++ t)))
-    by_test true h = omega arith
-    by_test false h = omega arith
+feed_grows (a ∷ s) t = grind (arith, common_steps, feed_grows s t)
 
 -- the lines behind the first stay, whatever of the first is taken away
 later-longer : (a : ℕ) (ls : List (List ℕ)) → later_lines (longer a ls) ≡ later_lines ls
-later-longer a [] = refl
-later-longer a (l ∷ ls) = refl
+later-longer a ls = search rules
 
 later-drop : (k : ℕ) (s : List ℕ) → k ≤ feed s → later_lines (lines_of (drop k s)) ≡ later_lines (lines_of s)
 unfolding feed lines_of
 later-drop zero s h = refl
 later-drop (suc k) [] h = refl
-later-drop (suc k) (a ∷ s) h = by_test (eqb a 10) (later-drop k s) h
-  where
-    by_test : (t : Bool) → (k ≤ feed s → later_lines (lines_of (drop k s)) ≡ later_lines (lines_of s)) → suc k ≤ cond t 0 (suc (feed s))
-        → later_lines (lines_of (drop k s)) ≡ later_lines (cond t ([] ∷ lines_of s) (longer a (lines_of s)))
-    by_test true f h = absurd (omega arith)
-    by_test false f h = f (omega arith) ∙ sym (later-longer a (lines_of s))
+later-drop (suc k) (a ∷ s) h = grind (arith, common_steps, later-drop k s, later-longer a (lines_of s))
 
 last_line : (s : List ℕ) → feed s ≡ length s → lines_of s ≡ last_of s
 unfolding lines_of
@@ -92,8 +73,7 @@ last_line (a ∷ s) e =
     lines-first (a ∷ s) (omega arith) ∙ rw (e, take_all (length (a ∷ s)) (a ∷ s) (omega arith), d)
 
 last_some : (s : List ℕ) → 0 < length s → last_of s ≡ s ∷ []
-last_some [] h = absurd (omega arith)
-last_some (a ∷ s) h = refl
+last_some s h = search rules
 
 -- what the place n of the first line feed of s says of the lines of s and what follows it
 module _ (s : List ℕ) (n : ℕ) (e : n ≡ feed s) where
@@ -127,13 +107,13 @@ module _ (s : List ℕ) (n : ℕ) (e : n ≡ feed s) where
 
 -- the bytes from..to of a buffer
 held_none : (b : List ℕ) (to : ℕ) → held to to b ≡ []
-held_none b to = let z : to - to ≡ 0 = omega arith in rw z
+held_none b to = search rules
 
 drop-take : (k m : ℕ) (l : List ℕ) → drop k (take m l) ≡ take (m - k) (drop k l)
-drop-take zero m l = let z : m - 0 ≡ m = omega arith in rw z
-drop-take (suc k) zero l = let z : 0 - suc k ≡ 0 = omega arith in rw z
-drop-take (suc k) (suc m) [] = sym (take-nil (suc m - suc k))
-drop-take (suc k) (suc m) (x ∷ l) = let z : suc m - suc k ≡ m - k = omega arith in rw z (drop-take k m l)
+drop-take zero m l = grind (arith, common_steps)
+drop-take (suc k) zero l = grind (arith, common_steps)
+drop-take (suc k) (suc m) [] = grind (arith, common_steps)
+drop-take (suc k) (suc m) (x ∷ l) = grind (arith, common_steps, drop-take k m l)
 
 pub length-held : (b : List ℕ) (from to : ℕ) → length (held from to b) ≡ min (to - from) (length b - from)
 length-held b from to = rw (length-take, length-drop)
@@ -150,18 +130,10 @@ module _ (b : List ℕ) (from to k : ℕ) (s : List ℕ) (e : s ≡ held from to
 
 -- the place of the first line feed, as the code finds it
 feed-some : (s : List ℕ) (n : ℕ) → line_feed s ≡ Some n → (n ≡ feed s) × (n < length s)
-feed-some s n e = by_test (nat_lt (position_or_len (λ b. b == 10) s) (length s)) refl e
-  where
-    by_test : (t : Bool) → nat_lt (position_or_len (λ b. b == 10) s) (length s) ≡ t → cond t (Some (position_or_len (λ b. b == 10) s)) None ≡ Some n → (n ≡ feed s) × (n < length s)
-    by_test true q e = let f = feed-position s in let m : n ≡ feed s = cc in let l = ltb-true _ _ q in (m, omega arith)
-    by_test false q e = absurd (none-some _ e)
+feed-some s n e = grind (arith, common_steps, feed-position s)
 
 feed-none : (s : List ℕ) → line_feed s ≡ None → length s ≤ feed s
-feed-none s e = by_test (nat_lt (position_or_len (λ b. b == 10) s) (length s)) refl e
-  where
-    by_test : (t : Bool) → nat_lt (position_or_len (λ b. b == 10) s) (length s) ≡ t → cond t (Some (position_or_len (λ b. b == 10) s)) None ≡ None → length s ≤ feed s
-    by_test true q e = absurd (none-some _ (sym e))
-    by_test false q e = let f = feed-position s in let l = ltb-false _ _ q in omega arith
+feed-none s e = grind (arith, common_steps, feed-position s)
 
 -- the rest of a line that was too long is left out
 module _ (r : Reader) (b s : List ℕ) (k : r.skips ≡ true) (p : s ≡ held_of r b) where
@@ -183,12 +155,11 @@ module _ (r : Reader) (b s : List ℕ) (k : r.skips ≡ true) (p : s ≡ held_of
 
 nothing-ahead : (limit : ℕ) (k : Bool) → ahead limit k [] ≡ []
 unfolding lines_of
-nothing-ahead limit true = refl
-nothing-ahead limit false = refl
+nothing-ahead limit k = search rules
 
 nothing-unended : (limit : ℕ) → Unended limit []
 unfolding lines_of
-nothing-unended limit = record { short = omega arith; last = refl }
+nothing-unended limit = search rules
 
 no_bytes : (s : List ℕ) → length s ≤ 0 → s ≡ []
 no_bytes [] h = refl

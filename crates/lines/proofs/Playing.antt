@@ -3,7 +3,6 @@ use mathlib.Core.Bool.{Bool, true, false}
 use mathlib.Core.Path.{◌≡◌, refl, ap, sym, ◌∙◌}
 use mathlib.Core.List.{List, [], ◌∷◌, ◌++◌, append_assoc, append-nil}
 use Prim.Native.Nat.{ℕ}
-use native.Mathlib.Omega.{arith}
 use Rattle.lines.specs.declared.Reader.{Reader}
 use Rattle.lines.specs.Lines.{lines_of, clipped}
 use Rattle.lines.specs.Reading.{ahead, ahead_of, MayFollow, TakesLine, TakesNone}
