@@ -1,4 +1,5 @@
 -- Laws of the lines of an input, and of the bytes that are held of it.
+use Rattle.std.proofs.lemmas.List.{nil_from_length}
 use Rattle.std.proofs.lemmas.Grind.{common_steps}
 use mathlib.Core.Bool.{Bool, true, false, cond}
 use mathlib.Core.Path.{◌≡◌, refl, ap, sym, ◌∙◌}
@@ -18,7 +19,6 @@ use Rattle.fields.specs.Fields.{longer}
 use Rattle.lines.specs.declared.Reader.{Reader}
 use Rattle.lines.specs.Lines.{lines_of, clipped, later_lines}
 use Rattle.lines.specs.Reading.{held, held_of, ahead, ahead_of, last_of, line_feed, Unended, TakesLine, TakesNone, Skips}
-use Rattle.lines.proofs.Playing.{apart}
 
 -- the place of the first line feed, or the length
 feed : List ℕ → ℕ
@@ -145,7 +145,7 @@ module _ (r : Reader) (b s : List ℕ) (k : r.skips ≡ true) (p : s ≡ held_of
       let same : (limit : ℕ) (rest : List ℕ) → ahead_of limit r b rest ≡ ahead limit false (held (r.from + n + 1) r.to b ++ rest) = λ limit rest. rw (k, ← p, ← q) (ap (λ (x : List (List ℕ)). clipped limit x) (skip_whole s n f.0 f.1 rest)) in
       let l : length (drop (n + 1) s) ≡ length s - (n + 1) = length-drop (n + 1) s in
       let w : length (held (r.from + n + 1) r.to b) ≤ length (held_of r b) = rw (← q, ← p) (omega arith) in
-      record { same = same; fewer = w; ended = refl; empty = λ x. absurd (apart false x refl) }
+      record { same = same; fewer = w; ended = refl; empty = λ x. cc }
 
   pub skips-part : line_feed s ≡ None → Skips r (record r { from = r.to }) b
   skips-part e =
@@ -160,10 +160,6 @@ nothing-ahead limit k = search rules
 nothing-unended : (limit : ℕ) → Unended limit []
 unfolding lines_of
 nothing-unended limit = search rules
-
-no_bytes : (s : List ℕ) → length s ≤ 0 → s ≡ []
-no_bytes [] h = refl
-no_bytes (x ∷ s) h = absurd (omega arith)
 
 -- what is taken of what the reader k holds, which left out the rest of a line that was too long
 module _ (limit : ℕ) (r k : Reader) (b : List ℕ) (S : Skips r k b) where
@@ -208,17 +204,13 @@ module _ (limit : ℕ) (r k : Reader) (b : List ℕ) (S : Skips r k b) where
 
       pub takes_part : (0 < length s → k.ended ≡ false) → TakesNone limit r k b
       takes_part y =
-          let none : k.ended ≡ true → s ≡ [] = λ x. no_bytes s (by_length (length s) refl x) in
+          let none : k.ended ≡ true → s ≡ [] = λ x. nil_from_length s (grind arith) in
           record {
             same = S.same limit;
             waits = rw (← p) held_unended;
             none = λ x. let z = S.ended in S.same limit [] ∙ rw (← p, none (z ∙ x)) (nothing-ahead limit k.skips);
             ended = S.ended;
           }
-        where
-          by_length : (n : ℕ) → length s ≡ n → k.ended ≡ true → n ≤ 0
-          by_length zero q x = omega arith
-          by_length (suc n) q x = absurd (apart k.ended x (y (omega arith)))
 
       pub takes-end : 0 < length s → k.ended ≡ true → TakesLine limit r (record k { from = k.to }) s b
       takes-end z y =
