@@ -1,8 +1,7 @@
 -- The two halves of a signed type, and a value without a minus.
 use borrow.Author.Rules.{rules}
-use Rattle.std.proofs.Common.{◌≡◌, List, [], ◌∷◌, ℕ, ◌+◌, ◌-◌, ◌/◌, ◌^◌, ◌<◌, length, refl, pos, arith}
+use Rattle.std.proofs.Common.{◌≡◌, List, ℕ, ◌+◌, ◌-◌, ◌/◌, ◌^◌, ◌<◌, length, pos, arith}
 use Rattle.std.specs.Option.{option_map}
-use borrow.Author.Tests.{ne_eqb}
 use lib.ListN.{get_or}
 use Rattle.value_writes.specs.declared.Width.{Width}
 use Rattle.value_writes.specs.Values.{bits_of}

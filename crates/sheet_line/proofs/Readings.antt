@@ -11,7 +11,6 @@ use Rattle.formatter.specs.declared.dispatch.Op.{Op}
 use Rattle.fields.specs.Hex.{is_hex, hex_bytes, from_hex, Read, read_hex}
 use Rattle.fields.proofs.Pairs.{bytes-length}
 use Rattle.sheet_line.specs.declared.texts.TextCall.{TextCall}
-use Rattle.sheet_line.specs.declared.texts.TextCall.TheVariants.{Open, Field, Str}
 use Rattle.sheet_line.specs.Reading.{call_in, with_text, call_text, reading, reading_of, read_into}
 
 -- the text of a call that has one

@@ -1,11 +1,8 @@
 -- A text compared with a word, byte by byte.
 use Rattle.std.proofs.lemmas.Grind.{common_steps}
 use borrow.Author.Rules.{rules}
-use Rattle.std.proofs.Common.{ℕ, Bool, true, false, List, [], ◌∷◌, length, ◌≡◌, refl, ap, eqb, suc, arith}
+use Rattle.std.proofs.Common.{ℕ, Bool, true, List, [], ◌∷◌, length, ◌≡◌, refl, eqb, suc, arith}
 use mathlib.Core.Bool.{◌&&◌}
-use mathlib.Core.Logic.{dite}
-use native.Mathlib.Decide.{ℕ_discrete}
-use borrow.Author.Tests.{eq-eqb, ne_eqb}
 use lib.ListN.{get_or}
 use Rattle.std.specs.Str.{bytes_eq}
 
