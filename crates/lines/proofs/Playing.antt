@@ -10,9 +10,6 @@ use Rattle.lines.specs.Lines.{lines_of, clipped}
 use Rattle.lines.specs.Reading.{ahead, ahead_of, MayFollow, TakesLine, TakesNone}
 use Rattle.lines.specs.Played.{At, standing, remains, Over, answers, ends, awaits, Steps, joined, Plays, rests, steps, reads, writes, PlaysRight, BreaksOffRight, MorePlays}
 
-pub apart : (t : Bool) → t ≡ true → t ≡ false → ⊥
-apart t p q = cc
-
 module _ {S : Type 0} (left : S → List (List ℕ) → List ℕ) (limit : ℕ) where
   -- an input that has ended gives no more pieces
   no_more : {a b : At S} {ins outs : List (List ℕ)} → Plays left limit a ins outs b → a.ended ≡ true → (b.ended ≡ true) × (joined ins ≡ [])

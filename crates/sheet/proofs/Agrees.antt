@@ -1,17 +1,13 @@
 -- Demand 3 on a call sheet, from the theorem about whole lists of calls.
 use Rattle.std.proofs.lemmas.List.{take-replicate, drop-replicate}
 use borrow.Author.Rules.{rules}
-use mathlib.Core.Bool.{Bool, true, false, cond}
-use Rattle.std.specs.Prelude.{Option, Some, None, Ok, Err}
+use Rattle.std.specs.Prelude.{Option, Some, Ok}
 use mathlib.Core.Path.{◌≡◌, refl, ap, ◌∙◌}
 use mathlib.Core.List.{List, [], ◌∷◌, ◌++◌, map, append_assoc}
-use Prim.Native.Nat.{ℕ, zero, suc, ◌+◌, ◌-◌, ◌≤◌}
-use native.Mathlib.Nat.{sub-zero, zero-sub, suc-sub-suc}
+use Prim.Native.Nat.{ℕ, suc, ◌+◌, ◌≤◌}
 use native.Mathlib.Omega.{arith}
-use lib.Dec.{ltb}
 use lib.ListN.{length, take, drop, replicate, length-append, length-replicate}
 use lib.Seq.{take_at}
-use borrow.Author.Tests.{ltb-false}
 use Rattle.calls.specs.Call.{Call}
 use Rattle.calls.specs.Model.{number_in, Output, step, run}
 use Rattle.agreement.specs.Untouched.{OnlyBetween}
@@ -19,7 +15,6 @@ use Rattle.agreement.specs.Agreement.{AllDone, defined_text, Counted, Written}
 use Rattle.agreement.proofs.Rest.{rest_untouched, rest-written}
 use Rattle.agreement.proofs.Agree.{agree}
 use Rattle.sheet_line.specs.declared.begin.Begin.{Begin}
-use Rattle.sheet_line.specs.declared.begin.BadBegin.TheVariants.{Cursor}
 use Rattle.sheet_line.specs.Begin.{begin_line, sized}
 use Rattle.sheet_line.specs.Line.{call_of_line}
 use Rattle.sheet.specs.Sheet.{Sheet, fresh_sheet, end_text}
@@ -76,7 +71,7 @@ sheet_agrees input n p S cs O P h =
       counts = rw (counting-rows 2 both cs) C.done;
       total = rw (after-counted both cs, C.output) refl;
       refused = λ k. rw (writing-rows 2 both cs) (W.refused (omega (arith, size)));
-      before = rw (after-written both cs) (W.before ∙ take-replicate p n 0 inside);
+      before = rw (after-written both cs) (W.before ∙ take-replicate {X = ℕ} p n 0 inside);
     }
   where
     size : length (replicate {A = ℕ} n 0) ≡ n
@@ -103,11 +98,11 @@ sheet_agrees input n p S cs O P h =
     before : p + length (defined_text S cs) ≤ length (replicate {A = ℕ} n 0)
         → take (p + length (defined_text S cs)) (take p (replicate n 0) ++ defined_text S cs ++ drop (p + length (defined_text S cs)) (replicate n 0)) ≡ replicate p 0 ++ defined_text S cs
     before k =
-        rw (take-replicate p n 0 inside)
+        rw (take-replicate {X = ℕ} p n 0 inside)
         (take_at (replicate p 0 ++ defined_text S cs) (drop (p + length (defined_text S cs)) (replicate n 0)) (p + length (defined_text S cs)) (simp (length-append, length-replicate)))
 
 pub sheet-rest : SheetRest
-sheet-rest n p S cs = rw (after-written both cs) (rest, rest.behind ∙ drop-replicate (number_in W.mode) n 0)
+sheet-rest n p S cs = rw (after-written both cs) (rest, rest.behind ∙ drop-replicate {X = ℕ} (number_in W.mode) n 0)
   where
     both : Sheet
     both = fresh_sheet (replicate n 0) p S
