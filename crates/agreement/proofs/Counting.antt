@@ -37,8 +37,8 @@ all_whole p b (c ∷ cs) F k d =
 
 none-entries : (p : List Open) → entries p ≡ [] → p ≡ []
 none-entries [] z = refl
-none-entries (building B ∷ p) z = absurd (omega (arith, ap length z))
-none-entries (within f ∷ p) z = absurd (omega (arith, ap length z))
+none-entries (building B ∷ p) z = cc
+none-entries (within f ∷ p) z = cc
 
 -- a formatter with nothing open holds nothing: the pile is empty too, and the pieces have gone out
 closed : (m : Mode) (b : List ℕ) (L : Ledger) (F : State) → Tracks m b L F → F.stack ≡ [] → (L.pile ≡ []) × Fits m b L.pieces × (F.output ≡ after m b L.pieces)

@@ -1,10 +1,12 @@
 -- What each piece keeps of the output, whatever its text, each call keeps, and each list of calls.
+use Rattle.std.proofs.lemmas.Grind.{common_steps}
+use native.Mathlib.Omega.{arith}
 use borrow.Author.Rules.{rules}
 use mathlib.Core.Bool.{Bool}
 use mathlib.Core.List.{List, [], ◌∷◌}
-use Prim.Native.Nat.{ℕ, zero, suc}
+use Prim.Native.Nat.{ℕ}
 use Rattle.calls.specs.Call.{Call}
-use Rattle.calls.specs.Model.{Mode, Output, PieceOutcome, put_in, put, tries, go_on, stops, State, Out, fault_of, Moved, move, emit, holds, settled, guard, step, run}
+use Rattle.calls.specs.Model.{Mode, Output, PieceOutcome, put_in, put, tries, stops, State, Out, fault_of, Moved, move, emit, holds, settled, guard, step, run}
 
 pub guard_cases : (Q : State → Type 0) (n : ℕ) (F : State) (o : Out) → Q F → Q o.state → Q (guard n F o).state
 guard_cases Q n F o a b = search rules
@@ -29,11 +31,7 @@ module _ (P : Mode → List ℕ → Type 0) where
 
     pub stops_keep : (d : Output) (ts : List (List ℕ)) → On d → On (stops d ts).output
     stops_keep d [] h = h
-    stops_keep d (t ∷ ts) h = go (put d t).answer (put_keep d t h) (stops_keep (put d t).output ts (put_keep d t h))
-      where
-        go : (a : ℕ) → On (put d t).output → On (stops (put d t).output ts).output → On (go_on a (put d t) (stops (put d t).output ts)).output
-        go zero k r = r
-        go (suc a) k r = k
+    stops_keep d (t ∷ ts) h = grind (arith, common_steps, put_keep d t h, stops_keep (put d t).output ts (put_keep d t h))
 
     emit_keep : (F : State) (c : Call) → In F → On (emit F c).output
     emit_keep F c h = search rules

@@ -1,9 +1,10 @@
 -- What pieces do to the count and to the lent bytes: laws for both modes at once.
+use Rattle.std.proofs.lemmas.Grind.{common_steps}
 use borrow.Author.Rules.{rules}
 use mathlib.Core.Path.{◌≡◌, refl, sym, ap, ◌∙◌}
 use mathlib.Core.Logic.{◌⊎◌, inl, inr}
 use mathlib.Core.List.{List, [], ◌∷◌, ◌++◌, append_assoc, append-nil, flatten}
-use Prim.Native.Nat.{ℕ, zero, suc, ◌+◌, ◌≤◌, ◌<◌}
+use Prim.Native.Nat.{ℕ, ◌+◌, ◌≤◌, ◌<◌}
 use native.Mathlib.Nat.{add_assoc}
 use native.Mathlib.Decide.{dec_le}
 use native.Mathlib.Omega.{arith}
@@ -14,7 +15,7 @@ use Rattle.error.specs.Answer.{number_of}
 use Rattle.str_writer.specs.Write.{splice, placed}
 use Rattle.str_writer.proofs.Splice.{splice-splice, length-splice}
 use Rattle.calls.specs.Call.{hold}
-use Rattle.calls.specs.Model.{Mode, number_in, counting, writing, Output, PieceOutcome, to, most, put_in, put, go_on, tries, stops, beyond, cut_in}
+use Rattle.calls.specs.Model.{Mode, number_in, counting, writing, Output, PieceOutcome, to, most, put_in, put, tries, stops, beyond, cut_in}
 use Rattle.agreement.specs.Untouched.{OnlyBetween, LeavesRest}
 
 flatten-append : (ts us : List (List ℕ)) → flatten (ts ++ us) ≡ flatten ts ++ flatten us
@@ -133,18 +134,11 @@ module _ (b : List ℕ) where
 -- pieces that stop at the first refusal answer what tried ones do
 pub stops-answer : (d : Output) (us : List (List ℕ)) → (stops d us).answer ≡ (tries d us).answer
 stops-answer d [] = refl
-stops-answer d (u ∷ us) = go (put d u).answer (put d u) _ refl (stops-answer (put d u).output us)
-  where
-    go : (a : ℕ) (r next : PieceOutcome) {x : ℕ} → r.answer ≡ a → next.answer ≡ x → (go_on a r next).answer ≡ hold a x
-    go zero r next e k = k
-    go (suc a) r next e k = e
+stops-answer d (u ∷ us) = grind (arith, common_steps, stops-answer (put d u).output us)
 
 -- pieces answer 0 or the code of the mode
 abbrev pub Coded : Mode → ℕ → Type 0
 Coded m a = (a ≡ 0) ⊎ (a ≡ code_of m)
-
-hold-coded : (m : Mode) (a x : ℕ) → Coded m a → Coded m x → Coded m (hold a x)
-hold-coded m a x e k = search rules
 
 -- What every piece keeps: the rest of the bytes, and a cursor that is in them
 abbrev Within : Mode → List ℕ → Type 0
@@ -216,6 +210,4 @@ module _ (m₀ : Mode) (b₀ : List ℕ) where
 
   pub tries-coded : (d : Output) (us : List (List ℕ)) → KeptIn m₀ b₀ d → Coded m₀ (tries d us).answer
   tries-coded d [] h = inl refl
-  tries-coded d (u ∷ us) h =
-      hold-coded m₀ _ _ (put-coded d u h)
-      (tries-coded (put d u).output us (put_kept m₀ b₀ d.mode d.bytes u h))
+  tries-coded d (u ∷ us) h = grind (arith, common_steps, hold_code m₀, put-coded d u h, tries-coded (put d u).output us (put_kept m₀ b₀ d.mode d.bytes u h))
