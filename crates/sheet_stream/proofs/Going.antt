@@ -7,12 +7,10 @@ use mathlib.Core.List.{append_assoc, append-nil}
 use Rattle.lines.specs.declared.Reader.{Reader}
 use Rattle.lines.specs.Lines.{lines_of, clipped, max_line}
 use Rattle.lines.specs.Reading.{held_of, ahead, MayFollow, More}
-use Rattle.lines.specs.Played.{At, remains, begins, Onward, answers, ends, awaits, Steps}
+use Rattle.lines.specs.Played.{At, remains, begins, Steps}
 use Rattle.line_input.proofs.Going.{consumes_none, consumes-then, appends_none, appends-then}
 use Rattle.sheet.specs.Printed.{printed}
-use Rattle.sheet_stream.specs.declared.State.{State}
-use Rattle.sheet_stream.specs.declared.State.TheVariants.{First, Later, Over}
-use Rattle.sheet_stream.specs.Left.{Stage, first, over, left, stage_of}
+use Rattle.sheet_stream.specs.Left.{Stage, first, over, left}
 use Rattle.sheet_stream.specs.declared.Stream.{Stream}
 use Rattle.sheet_stream.specs.Step.{at_of, is_over, Stepped, emptied_of}
 use Rattle.sheet_stream.proofs.Playing.{lines-clipped}

@@ -2,27 +2,19 @@
 use Rattle.std.proofs.lemmas.Grind.{common_steps}
 use borrow.Author.Rules.{rules}
 use mathlib.Core.Bool.{Bool, true, false, cond}
-use mathlib.Core.Path.{◌≡◌, refl, ap, ◌∙◌}
+use mathlib.Core.Path.{◌≡◌, ap, ◌∙◌}
 use mathlib.Core.List.{List, [], ◌∷◌, ◌++◌, append_assoc, append-nil}
-use Rattle.std.specs.Prelude.{Option, Some, None, Ok, Err}
-use Rattle.std.proofs.lemmas.Option.{none-some, same_Some}
-use Prim.Native.Nat.{ℕ, suc, ◌+◌, ◌-◌, ◌*◌, ◌^◌, ◌≤◌}
-use native.Mathlib.Numerals.{add-one}
+use Rattle.std.specs.Prelude.{Ok, Err}
+use Prim.Native.Nat.{ℕ, suc, ◌+◌, ◌*◌, ◌≤◌}
 use native.Mathlib.Omega.{arith}
-use borrow.Author.Tests.{leb-true}
-use lib.Dec.{ltb, leb}
-use lib.ListN.{length, take, drop, replicate, length-append, length-take}
+use lib.ListN.{length, take, drop, replicate, length-append}
 use lib.Seq.{take_at, length-take-le}
 use Rattle.str_writer.specs.declared.piece.Written.{Written}
 use Rattle.str_writer.specs.Write.{Outcome, outcome, splice, put}
 use Rattle.fields.proofs.Cells.{put-fits}
-use Rattle.formatting.specs.Bytes.{bytes}
-use Rattle.fields.specs.Fields.{fields}
-use Rattle.std.specs.Str.{bytes_eq}
-use Rattle.fields.specs.Decimal.{decimal_of, up_to}
 use Rattle.sheet_line.specs.declared.begin.Begin.{Begin}
 use Rattle.sheet_line.specs.declared.begin.BadBegin.TheVariants.{Form, Cursor}
-use Rattle.sheet_line.specs.Begin.{begun, flag_fields, size_fields, begin_fields, begin_line, sized, begin_of}
+use Rattle.sheet_line.specs.Begin.{begin_line, begin_of}
 use Rattle.formatting.specs.declared.flags.FormattingFlags.{FormattingFlags}
 use Rattle.sheet_line.specs.Line.{call_of_line}
 use Rattle.sheet.specs.Sheet.{Sheet, fresh_sheet, bad_text, refused_text, end_text, stepped}

@@ -1,12 +1,12 @@
 -- The sheet as a program that answers lines: what it writes in all.
 use borrow.Author.Rules.{rules}
-use mathlib.Core.Bool.{Bool, true, false, ◌||◌}
+use mathlib.Core.Bool.{Bool, true, false}
 use mathlib.Core.Path.{◌≡◌, refl, ap, sym, ◌∙◌}
 use mathlib.Core.List.{List, [], ◌∷◌, ◌++◌}
 use Prim.Native.Nat.{ℕ, suc, ◌+◌, ◌<◌}
 use native.Mathlib.Omega.{arith}
-use borrow.Author.Tests.{lt-ltb, ltb-true, ltb-false, leb-false}
-use lib.Dec.{ltb, leb}
+use borrow.Author.Tests.{ltb-true, ltb-false}
+use lib.Dec.{ltb}
 use lib.ListN.{length, take, replicate}
 use lib.Seq.{take_all, length-take-le}
 use Rattle.std.specs.Prelude.{None, Result, Ok, Err}
@@ -21,8 +21,7 @@ use Rattle.sheet_line.specs.Line.{call_of_line}
 use Rattle.sheet.specs.Sheet.{Sheet, fresh_sheet, stepped}
 use Rattle.sheet.specs.Printed.{printed_from, printed_after, printed_lines}
 use Rattle.sheet_stream.specs.Left.{first, left, SheetPlaysRight, SheetBreaksOffRight}
-use Rattle.sheet_stream.specs.declared.Stream.{Stream}
-use Rattle.sheet_stream.specs.Step.{Sized, is_over, is_due, StaysReady}
+use Rattle.sheet_stream.specs.Step.{StaysReady}
 
 -- a line that the reader clipped means what it meant, where all lines above the limit mean the same
 clipped-line : {A : Type 0} (f : List ℕ → A) (x : A) → ((l : List ℕ) → max_line < length l → f l ≡ x) → (l : List ℕ) → f (take (max_line + 1) l) ≡ f l

@@ -40,8 +40,3 @@ pub fails : (n l h a : ℕ) → 0 < n → (l ≤ a → h < a) → (s : List ℕ)
 unfolding continues
 fails zero l h a k p s = absurd (omega arith)
 fails (suc n) l h a k p s = grind (arith, never)
-
--- the end of the text
-pub ends : (n l h : ℕ) → eqb n 0 ≡ continues [] (some (ranges_of n l h))
-unfolding continues
-ends n l h = search rules
