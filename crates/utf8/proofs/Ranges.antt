@@ -6,7 +6,6 @@ use mathlib.Core.Path.{◌≡◌, refl}
 use Prim.Native.Nat.{ℕ, zero, suc, ◌≤◌, ◌<◌, ◌-◌}
 use native.Mathlib.Omega.{arith}
 use borrow.Author.Rules.{rules}
-use lib.Dec.{eqb}
 use lib.ListN.{replicate}
 use Rattle.utf8.specs.Utf8.{Octets, tail, follow, continues}
 use Rattle.utf8.specs.Expected.{ranges_of}

@@ -1,12 +1,7 @@
 -- `utf8::by_octets` meets its contract. The loop's invariant: the text is well formed if and only if the rest has what has to follow.
 use Rattle.std.proofs.lemmas.Grind.{common_steps}
 use Rattle.utf8.specs.Utf8.{continues}
-use native.Mathlib.Numerals.{add-one}
 use native.Mathlib.Omega.{arith}
-use mathlib.Core.Path.{refl, ◌∙◌}
-use Prim.Native.Nat.{◌≤◌, ◌<◌, ◌+◌}
-use lib.ListN.{length, drop, drop_of_length-le}
-use lib.Seq.{drop-cons}
 use Rattle.utf8.proofs.by_octets.Goals as goal
 
 pub returns : goal.returns
