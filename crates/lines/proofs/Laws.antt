@@ -4,12 +4,12 @@ use Rattle.std.proofs.lemmas.Grind.{common_steps}
 use mathlib.Core.Bool.{Bool, true, false, cond}
 use mathlib.Core.Path.{◌≡◌, refl, ap, sym, ◌∙◌}
 use mathlib.Core.List.{List, [], ◌∷◌, ◌++◌, append-nil}
-use Prim.Native.Nat.{ℕ, zero, suc, ◌+◌, ◌-◌, ◌≤◌, ◌<◌, min}
+use Prim.Native.Nat.{ℕ, zero, suc, ◌+◌, ◌-◌, ◌≤◌, ◌<◌}
 use native.Mathlib.Numerals.{add-one}
 use native.Mathlib.Omega.{arith}
 use borrow.Author.Rules.{rules}
 use lib.Dec.{eqb}
-use lib.ListN.{length, take, drop, length-append, length-drop, length-take, drop_of_length-le}
+use lib.ListN.{length, take, drop, length-append, length-drop, drop_of_length-le}
 use lib.Seq.{take-append-le, drop-append-le, drop-append_seam, take_all, length-take-le, take-take, drop-drop}
 use Rattle.std.specs.Prelude.{Some, None, ◌==◌}
 use Rattle.std.specs.List.{position_or_len}
@@ -115,14 +115,8 @@ drop-take (suc k) zero l = grind (arith, common_steps)
 drop-take (suc k) (suc m) [] = grind (arith, common_steps)
 drop-take (suc k) (suc m) (x ∷ l) = grind (arith, common_steps, drop-take k m l)
 
-pub length-held : (b : List ℕ) (from to : ℕ) → length (held from to b) ≡ min (to - from) (length b - from)
-length-held b from to = rw (length-take, length-drop)
-
--- their first k bytes, and those behind these
-module _ (b : List ℕ) (from to k : ℕ) (s : List ℕ) (e : s ≡ held from to b) (h : k ≤ length s) where
-  length_part : length s ≡ min (to - from) (length b - from)
-  length_part = rw e (length-held b from to)
-
+-- those behind the first k
+module _ (b : List ℕ) (from to k : ℕ) (s : List ℕ) (e : s ≡ held from to b) where
   rest-held : drop k s ≡ held (from + k) to b
   rest-held =
       let y : to - from - k ≡ to - (from + k) = omega arith in
@@ -141,7 +135,7 @@ module _ (r : Reader) (b s : List ℕ) (k : r.skips ≡ true) (p : s ≡ held_of
   skips-whole n e =
       let f = feed-some s n e in
       let z : r.from + (n + 1) ≡ r.from + n + 1 = omega arith in
-      let q : drop (n + 1) s ≡ held (r.from + n + 1) r.to b = rw (← z) (rest-held b r.from r.to (n + 1) s p (omega arith)) in
+      let q : drop (n + 1) s ≡ held (r.from + n + 1) r.to b = rw (← z) (rest-held b r.from r.to (n + 1) s p) in
       let same : (limit : ℕ) (rest : List ℕ) → ahead_of limit r b rest ≡ ahead limit false (held (r.from + n + 1) r.to b ++ rest) = λ limit rest. rw (k, ← p, ← q) (ap (λ (x : List (List ℕ)). clipped limit x) (skip_whole s n f.0 f.1 rest)) in
       let l : length (drop (n + 1) s) ≡ length s - (n + 1) = length-drop (n + 1) s in
       let w : length (held (r.from + n + 1) r.to b) ≤ length (held_of r b) = rw (← q, ← p) (omega arith) in
@@ -174,7 +168,7 @@ module _ (limit : ℕ) (r k : Reader) (b : List ℕ) (S : Skips r k b) where
     takes_long h =
         let i = feed_le s in
         let v = S.fewer in
-        let q = rest-held b k.from k.to (limit + 1) s p (omega arith) in
+        let q = rest-held b k.from k.to (limit + 1) s p in
         let l : length (drop (limit + 1) s) ≡ length s - (limit + 1) = length-drop (limit + 1) s in
         let w : length (held (k.from + (limit + 1)) k.to b) < length (held_of k b) = rw (← q, ← p) (omega arith) in
         record { line = λ rest y. S.same limit rest ∙ rw (f, ← p, ← q) (first_long s (feed s) refl limit h rest); fewer = omega arith; ended = S.ended }
@@ -190,7 +184,7 @@ module _ (limit : ℕ) (r k : Reader) (b : List ℕ) (S : Skips r k b) where
     takes_whole n e g =
         let i = feed-some s n e in
         let v = S.fewer in
-        let q : drop (n + 1) s ≡ held (k.from + (n + 1)) k.to b = rest-held b k.from k.to (n + 1) s p (omega arith) in
+        let q : drop (n + 1) s ≡ held (k.from + (n + 1)) k.to b = rest-held b k.from k.to (n + 1) s p in
         let l : length (drop (n + 1) s) ≡ length s - (n + 1) = length-drop (n + 1) s in
         let w : length (held (k.from + (n + 1)) k.to b) < length (held_of k b) = rw (← q, ← p) (omega arith) in
         let m : length (take n s) ≡ n = length-take-le n s (omega arith) in
