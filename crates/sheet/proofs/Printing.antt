@@ -1,17 +1,17 @@
 -- Pieces put one after another are the text that they make, put at once.
+use Rattle.std.proofs.lemmas.Grind.{common_steps}
 use mathlib.Core.Path.{◌≡◌, ap, ◌∙◌}
 use mathlib.Core.List.{List, [], ◌∷◌, ◌++◌}
-use Prim.Native.Nat.{ℕ, ◌+◌, ◌-◌, ◌*◌, ◌/◌, ◌≤◌, ◌<◌}
+use Prim.Native.Nat.{ℕ, ◌+◌, ◌-◌, ◌*◌, ◌/◌, ◌≤◌, ◌<◌, ◌^◌}
 use native.Mathlib.Omega.{arith}
-use lib.ListN.{length, take, drop, length-append}
-use lib.Seq.{take-append_seam}
+use lib.ListN.{length, take, length-append}
 use Rattle.str_writer.specs.declared.piece.Written.{Written}
 use Rattle.str_writer.specs.Write.{Outcome, outcome, splice, put}
 use Rattle.str_writer.proofs.Splice.{splice-splice, length-splice}
 use Rattle.formatting.specs.Bytes.{bytes}
 use Rattle.fields.specs.Decimal.{cell}
 use Rattle.fields.specs.Hex.{hex_pairs}
-use Rattle.fields.proofs.Cells.{put-fits}
+use Rattle.fields.proofs.Cells.{put-fits, cell-short}
 use Rattle.fields.proofs.Pairs.{pairs-length}
 use Rattle.sheet.specs.Sheet.{end_line}
 
@@ -41,6 +41,14 @@ next {b} {t} {k} {w} {c} m u v d a e h l =
     let s = a.short in
     record { whole = e ∙ put_next b 0 t w c a.whole u (omega arith); short = simp length-append (omega arith) }
 
+-- a number's cell, alone and behind a text
+pub first-cell : {b : List ℕ} (n after : ℕ) (w : Written) (c : List ℕ) → n < 2 ^ 64 → outcome w c ≡ put b 0 (cell n after) → At b (cell n after) 21 w c
+first-cell n after w c s e = record { whole = e; short = cell-short n after s }
+
+pub next-cell : {b t : List ℕ} {k : ℕ} {w : Written} {c : List ℕ} (n after : ℕ) (v : Written) (d : List ℕ) → n < 2 ^ 64 → At b t k w c → outcome v d ≡ put c w.at (cell n after) → k + 21 ≤ length b
+    → At b (t ++ cell n after) (k + 21) v d
+next-cell n after v d s a e l = next 21 (cell n after) v d a e (cell-short n after s) l
+
 pub laid : {b t : List ℕ} {k : ℕ} {w : Written} {c : List ℕ} → At b t k w c → k ≤ length b → (w.at ≡ length t) × ((w.at ≤ k) × (c ≡ splice b 0 t))
 laid {b} {t} {k} {w} {c} a l =
     let s = a.short in
@@ -49,9 +57,7 @@ laid {b} {t} {k} {w} {c} a l =
 
 -- what was laid at the beginning
 pub laid-text : (b t : List ℕ) (n : ℕ) (c : List ℕ) → n ≡ length t → c ≡ splice b 0 t → take (n - 0) c ≡ t
-laid-text b t n c p q =
-    let z : n - 0 ≡ length t = omega arith in
-    rw (q, z) (take-append_seam t (drop (0 + length t) b))
+laid-text b t n c p q = grind (arith, common_steps)
 
 -- the last line: `end`, total and cursor, then HEX, then a line feed
 module _ (total cursor : ℕ) (s : List ℕ) where
