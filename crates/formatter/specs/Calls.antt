@@ -1,7 +1,7 @@
 -- The call that an Op and the text lent beside it are, and what is no call.
 use Rattle.std.specs.Prelude.{List, ℕ, Option, Some, None}
 use Rattle.error.specs.declared.Error.TheVariants.{WrongCall}
-use Rattle.error.specs.Errors.{number_of}
+use Rattle.error.specs.Answer.{number_of}
 use Rattle.calls.specs.Call.{Call, opens, place, value, sub, endsub, finish, hold}
 use Rattle.calls.specs.Model.{State, Out, beyond, fault_of, step}
 use Rattle.writer_backend.specs.Pieces.{place_of}

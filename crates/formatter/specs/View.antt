@@ -2,7 +2,7 @@
 use Rattle.std.specs.Prelude.{cond, List, ℕ, min, ltb, length, map, reverse, take, Result, Ok, Err}
 use Rattle.error.specs.declared.Error.{Error}
 use Rattle.error.specs.declared.Error.TheVariants.{BadCursor}
-use Rattle.error.specs.Errors.{Answer, answer_number}
+use Rattle.error.specs.Answer.{Answer, answer_number}
 use Rattle.calls.specs.declared.Settings.{Settings}
 use Rattle.calls.specs.Model.{Entry, State, Out, start, writing}
 use Rattle.writer_backend.specs.Output.{output_of}

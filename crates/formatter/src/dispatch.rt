@@ -1,7 +1,7 @@
 // The calls of a run: each is judged, emits its pieces and moves the entries. What a call does not
 // touch is not copied.
 ghost use Rattle.std.specs.Prelude.{◌≡◌, List, ℕ, None};
-ghost use Rattle.error.specs.Errors.{answer_number};
+ghost use Rattle.error.specs.Answer.{answer_number};
 ghost use Rattle.calls.specs.Call.{opens, place, value, finish, sub, endsub};
 ghost use Rattle.calls.specs.Model.{fault_of, step};
 ghost use Rattle.writer_backend.specs.Pieces.{place_of};

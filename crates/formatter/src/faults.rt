@@ -1,6 +1,6 @@
 // What a call meets, judged by the entries that are open, the innermost last. Nothing is written.
 ghost use Rattle.std.specs.Prelude.{◌≡◌, ℕ, length};
-ghost use Rattle.error.specs.Errors.{answer_number};
+ghost use Rattle.error.specs.Answer.{answer_number};
 ghost use Rattle.formatting.specs.Flags.{default_flags};
 ghost use Rattle.calls.specs.Call.{opens, place, value, finish, sub, endsub, ready, call_fault, cut_number, hold};
 ghost use Rattle.calls.specs.Model.{inner, cut_in};

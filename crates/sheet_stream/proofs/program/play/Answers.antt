@@ -1,5 +1,5 @@
 use Rattle.std.proofs.Common.{rules}
-use Rattle.sheet_stream.proofs.Going.{going-begins, turn-steps, turn-writes, turn-ends, turn-reads}
+use Rattle.sheet_stream.proofs.Going.{going-begins, turn-writes, turn-ends, turn-reads}
 use Rattle.sheet_stream.proofs.program.play.Goals as goal
 
 pub loop-init : goal.loop-init
