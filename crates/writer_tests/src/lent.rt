@@ -29,17 +29,18 @@ pub(crate) fn twice_call(
 // Lays the answer to the write, for each truncation its answer and the cursor after it, and the bytes
 // of the buffer.
 fn put_truncated(r: Truncated, buf: &[u8], out: &mut Printed) {
-    let written = r.written;
-    let plain = r.plain;
-    let utf8 = r.utf8;
+    let Truncated {
+        written,
+        plain,
+        len,
+        utf8,
+        at,
+    } = r;
     let after_plain = Written {
-        at: r.len,
+        at: len,
         answer: plain,
     };
-    let after_utf8 = Written {
-        at: r.at,
-        answer: utf8,
-    };
+    let after_utf8 = Written { at, answer: utf8 };
     out.cell(b"", u64::from(written.number()), b',');
     out.outcome(b" truncate: ", after_plain, b',');
     out.outcome(b" utf8: ", after_utf8, b' ');
