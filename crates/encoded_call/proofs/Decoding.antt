@@ -1,9 +1,7 @@
 -- The numbers of a call's words: the width that they are, and the integers of a width, over the width.
-use mathlib.Core.Bool.{true, false}
 use mathlib.Core.Path.{◌≡◌, refl}
-use Prim.Native.Nat.{ℕ, zero, suc, ◌+◌, ◌*◌, ◌-◌, ◌/◌, ◌^◌, ◌≤◌, ◌<◌}
+use Prim.Native.Nat.{ℕ, suc, ◌+◌, ◌*◌, ◌-◌, ◌/◌, ◌^◌, ◌≤◌, ◌<◌}
 use native.Mathlib.Omega.{arith}
-use lib.Dec.{ltb}
 use mir.Syntax.{w64}
 use mir.Val.{to_z}
 use mir.Facts.{to_z_pos, to_z-neg}
@@ -11,7 +9,7 @@ use borrow.Author.Tests.{lt-ltb, le-ltb}
 use Rattle.value_writes.specs.declared.Width.{Width}
 use Rattle.value_writes.specs.declared.Width.TheVariants.{W8, W16, W32, W64}
 use Rattle.value_writes.specs.Values.{bits_of}
-use Rattle.encoded_call.specs.Encoding.{width_at, signed_at}
+use Rattle.encoded_call.specs.Encoding.{signed_at}
 
 pub half : (w : Width) → 2 ^ bits_of w ≡ 2 * 2 ^ (bits_of w - 1)
 half W8 = refl

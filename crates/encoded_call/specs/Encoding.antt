@@ -1,5 +1,5 @@
 -- A run as data: five words to a call, over a pool of texts. The words are: which call, where its text starts in the pool, how long the text is, and two numbers a and b. Document 01 has no such form: docs/DECISIONS.md, 'The formatter', says why there is one.
-use Rattle.std.specs.Prelude.{cond, List, [], ◌∷◌, ℕ, zero, suc, ◌-◌, ◌/◌, ◌^◌, leb, ltb, eqb, ℤ, pos, negsuc, length, take, drop, Option, Some, None}
+use Rattle.std.specs.Prelude.{cond, List, [], ◌∷◌, ℕ, zero, suc, ◌-◌, ◌^◌, leb, ltb, eqb, ℤ, pos, negsuc, length, take, drop, Option, Some, None}
 use Rattle.std.specs.Option.{option_map, option_and_then}
 use Rattle.formatting.specs.FlagsAsNumber.{are_flags, flags_of}
 use Rattle.calls.specs.declared.Kind.TheVariants.{Struct, Tuple, Set}

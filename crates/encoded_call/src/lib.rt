@@ -1,5 +1,6 @@
 // A call of a run as five numbers over a pool of texts: which call, where its text starts, how long
-// it is, and two numbers.
+// it is, and two numbers. They are numbers because a caller in another language lays them
+// (table_text.h).
 #![tactic(auto)]
 
 ghost use Rattle.std.specs.Prelude.{◌≡◌, ◌^◌, ◌<◌, get_or};

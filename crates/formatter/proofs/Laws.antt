@@ -1,8 +1,8 @@
 -- The entries of the stack, of which the innermost is the last.
-use Rattle.std.proofs.Common.{◌≡◌, ℕ, ◌+◌, ◌-◌, ◌<◌, List, [], ◌∷◌, ◌++◌, length, map, reverse, take, set, get_or, refl, ap, sym, ◌∙◌, arith}
+use Rattle.std.proofs.Common.{◌≡◌, ℕ, ◌+◌, ◌-◌, ◌<◌, List, [], ◌∷◌, ◌++◌, length, take, set, get_or, ap, sym, ◌∙◌, arith}
 use Rattle.std.proofs.lemmas.List.{take_more, take_more_set, map-append, reverse-append, length-map, length-reverse, set-get_or, take_all}
 use Rattle.calls.specs.Call.{a_builder}
-use Rattle.calls.specs.Model.{Entry, builder, inner}
+use Rattle.calls.specs.Model.{builder, inner}
 use Rattle.writer_backend.specs.declared.record.Builder as code_builder
 use Rattle.formatter.specs.Entries.{builder_of, entry_of}
 use Rattle.formatter.specs.View.{stack_of}

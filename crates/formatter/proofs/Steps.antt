@@ -1,5 +1,5 @@
 -- What each call does that meets nothing, and what a call meets, over the parts of a formatter.
-use Rattle.std.proofs.Common.{◌≡◌, ℕ, zero, suc, ◌+◌, ◌∙◌, Bool, true, false, List, [], ◌∷◌, length, refl, ap, sym, Ok, Err}
+use Rattle.std.proofs.Common.{◌≡◌, ℕ, zero, suc, ◌+◌, ◌∙◌, true, false, List, ◌∷◌, length, refl, ap, Ok, Err}
 use Rattle.std.specs.Result.{result_err}
 use Rattle.error.specs.Answer.{fault_number, Answer, answer_number}
 use Rattle.formatting.specs.declared.flags.FormattingFlags.{FormattingFlags}
@@ -7,7 +7,7 @@ use Rattle.str_writer.specs.Value.{Value, text_of, input_fault, cut_fault}
 use Rattle.calls.specs.declared.Kind.{Kind}
 use Rattle.calls.specs.declared.Kind.TheVariants.{Struct, Tuple, List as ListKind, Set}
 use Rattle.calls.specs.Call.{Place, opens, place, value, sub, open_pieces, place_pieces, a_builder, ready, call_fault, hold}
-use Rattle.calls.specs.Model.{Mode, counting, writing, Output, PieceOutcome, put, cut_in, tries, Builder, builder, Outer, outer, Entry, State, Out, inner, beyond, guard, step}
+use Rattle.calls.specs.Model.{Mode, counting, writing, Output, PieceOutcome, put, cut_in, tries, Builder, builder, outer, Entry, State, Out, inner, beyond, guard, step}
 use Rattle.writer_backend.specs.declared.pieces.WriterBackend.{WriterBackend}
 use Rattle.writer_backend.specs.Output.{mode_of, output_of, put_out, held_of, held_number}
 use Rattle.writer_backend.specs.Pieces.{try_all}

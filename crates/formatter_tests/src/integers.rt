@@ -1,29 +1,33 @@
 // Writes of integers. The place k of a name is twice that of its type among u8, u16, u32, u64, i8,
 // i16, i32 and i64, and one more for the debug form.
-use crate::texts::other;
+use error::Error;
 use fields::number;
-use formatter_by_value::{Formatter, FormatterStep};
+use formatter::Formatter;
 use std::num::TryFromIntError;
 use value_writes::{Form, IntegerValue};
 
 // A value in a form, if its type has it.
 fn written<I: IntegerValue>(
-    fmt: Formatter,
+    fmt: &mut Formatter,
     buf: &mut [u8],
     form: Form,
     value: Result<I, TryFromIntError>,
-) -> FormatterStep {
-    let Ok(x) = value else {
-        return other(fmt);
-    };
-    match form {
+) -> Option<Result<(), Error>> {
+    let x = value.ok()?;
+    Some(match form {
         Form::Display => fmt.write_display(buf, x),
         Form::Debug => fmt.write_debug(buf, x),
-    }
+    })
 }
 
 // n as a value of the unsigned type at place t.
-fn unsigned(fmt: Formatter, buf: &mut [u8], form: Form, t: usize, n: u64) -> FormatterStep {
+fn unsigned(
+    fmt: &mut Formatter,
+    buf: &mut [u8],
+    form: Form,
+    t: usize,
+    n: u64,
+) -> Option<Result<(), Error>> {
     match t {
         0 => written(fmt, buf, form, u8::try_from(n)),
         1 => written(fmt, buf, form, u16::try_from(n)),
@@ -33,7 +37,13 @@ fn unsigned(fmt: Formatter, buf: &mut [u8], form: Form, t: usize, n: u64) -> For
 }
 
 // x as a value of the signed type at place t.
-fn signed(fmt: Formatter, buf: &mut [u8], form: Form, t: usize, x: i64) -> FormatterStep {
+fn signed(
+    fmt: &mut Formatter,
+    buf: &mut [u8],
+    form: Form,
+    t: usize,
+    x: i64,
+) -> Option<Result<(), Error>> {
     match t {
         4 => written(fmt, buf, form, i8::try_from(x)),
         5 => written(fmt, buf, form, i16::try_from(x)),
@@ -55,11 +65,11 @@ fn signed_number(s: &[u8]) -> Option<i64> {
 
 // `VALUE`, a value of its type.
 pub(crate) fn integer_call(
-    fmt: Formatter,
+    fmt: &mut Formatter,
     buf: &mut [u8],
     k: usize,
     arguments: &[u8],
-) -> FormatterStep {
+) -> Option<Result<(), Error>> {
     let t = k / 2;
     let form = if k % 2 == 1 {
         Form::Debug
@@ -67,13 +77,7 @@ pub(crate) fn integer_call(
         Form::Display
     };
     if t < 4 {
-        let Some(n) = number(arguments, u64::MAX) else {
-            return other(fmt);
-        };
-        return unsigned(fmt, buf, form, t, n);
+        return unsigned(fmt, buf, form, t, number(arguments, u64::MAX)?);
     }
-    let Some(x) = signed_number(arguments) else {
-        return other(fmt);
-    };
-    signed(fmt, buf, form, t, x)
+    signed(fmt, buf, form, t, signed_number(arguments)?)
 }

@@ -1,4 +1,4 @@
-// The methods of a formatter by value, in counting and in writing. A case is a line of standard
+// The methods of a formatter, in counting and in writing. A case is a line of standard
 // input: README.md has the form of the lines and what each prints.
 #![tactic(auto)]
 
@@ -8,18 +8,56 @@ mod print;
 mod texts;
 
 use calls::Settings;
+use error::Error;
 use fields::{first_field, later_fields, number};
-use formatter_by_value::{Formatter, FormatterStep};
+use formatter::Formatter;
 use formatting::flags_of;
 use line_input::{LineProgram, answer_lines};
 use lines::{MAX_LINE, part};
 use play::play;
-use print::{put_bytes, put_call};
+use print::{put_bytes, put_step, put_text};
 use std::io;
 use str_writer::put;
+use writer_backend::WriterBackend;
 
-// Makes the calls of a line by a formatter that counts, to which four dots are lent, and by one that
-// writes into a buffer from a place. Lays the name, and what each call gives.
+// The two formatters of a line, and what each answered last: one counts, to which four dots are lent,
+// and one writes into a buffer from a place.
+#[derive(Clone, Copy)]
+struct Pair {
+    counting: Formatter,
+    counted: Option<Result<(), Error>>,
+    writing: Formatter,
+    written: Option<Result<(), Error>>,
+}
+
+impl Pair {
+    fn new(settings: Settings, buf: &[u8], at: usize) -> Pair {
+        let (writing, written) = match Formatter::writing(buf, at, settings) {
+            Ok(writing) => (writing, Ok(())),
+            Err(error) => (
+                Formatter::new(WriterBackend::writing(at), settings),
+                Err(error),
+            ),
+        };
+        Pair {
+            counting: Formatter::counting(settings),
+            counted: Some(Ok(())),
+            writing,
+            written: Some(written),
+        }
+    }
+
+    // Lays a call, or the name of the line, and what it gave.
+    fn put(&self, out: &mut [u8], at: usize, call: &[u8]) -> usize {
+        let end = put_text(out, at, call);
+        let end = put_text(out, end, b": ");
+        let end = put_step(out, end, self.counted, &self.counting, b',');
+        let end = put_text(out, end, b" ");
+        put_step(out, end, self.written, &self.writing, b'\n')
+    }
+}
+
+// Makes the calls of a line. Lays the name, and what each call gives.
 fn answer_calls(
     name: &[u8],
     calls: &[u8],
@@ -29,12 +67,8 @@ fn answer_calls(
     out: &mut [u8],
 ) -> usize {
     let mut four = [b'.'; 4];
-    let mut counted = FormatterStep {
-        answer: 0,
-        fmt: Formatter::counting(settings),
-    };
-    let mut written = Formatter::writing(buf, at, settings);
-    let mut end = put_call(out, 0, name, counted, written);
+    let mut pair = Pair::new(settings, buf, at);
+    let mut end = pair.put(out, 0, name);
     let mut rest = calls;
     while !rest.is_empty() {
         // By hand, and not by `split`: a call is played with what stands before it.
@@ -43,12 +77,10 @@ fn answer_calls(
         let n = later.iter().position(|b| *b == b';').unwrap_or(later.len());
         let call = &later[..n];
         rest = &later[n..];
-        let counts = counted.fmt;
-        let writes = written.fmt;
-        counted = play(counts, &mut four, call, calls_before);
-        written = play(writes, buf, call, calls_before);
-        let space = put(out, end, b" ");
-        end = put_call(out, space.at, call, counted, written);
+        pair.counted = play(&mut pair.counting, &mut four, call, calls_before);
+        pair.written = play(&mut pair.writing, buf, call, calls_before);
+        end = put_text(out, end, b" ");
+        end = pair.put(out, end, call);
     }
     put_bytes(out, end, &four, buf)
 }

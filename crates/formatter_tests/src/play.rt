@@ -1,15 +1,14 @@
 // A call by its name, and the calls of a line played again and again.
 use crate::integers::integer_call;
-use crate::texts::{
-    char_call, flags_call, other, plain_call, range_call, repeated_call, text_call,
-};
+use crate::texts::{char_call, flags_call, plain_call, range_call, repeated_call, text_call};
+use error::Error;
 use fields::{first_field, later_fields, number, place_of};
-use formatter_by_value::{Formatter, FormatterStep};
+use formatter::Formatter;
 
-// Makes the call `NAME,ARGUMENTS`.
-fn make_call(fmt: Formatter, buf: &mut [u8], call: &[u8]) -> FormatterStep {
+// Makes the call `NAME,ARGUMENTS`; None is no call.
+fn make_call(fmt: &mut Formatter, buf: &mut [u8], call: &[u8]) -> Option<Result<(), Error>> {
     let arguments = later_fields(call);
-    let Some(k) = place_of(
+    let k = place_of(
         first_field(call),
         b"debug_list,debug_set,tuple_field,entry,finish,end_formatter,\
         debug_struct,debug_tuple,field,write_str,write_str_debug,write_ascii,write_ascii_debug,\
@@ -19,9 +18,7 @@ fn make_call(fmt: Formatter, buf: &mut [u8], call: &[u8]) -> FormatterStep {
         write_u32_display,write_u32_debug,write_u64_display,write_u64_debug,\
         write_i8_display,write_i8_debug,write_i16_display,write_i16_debug,\
         write_i32_display,write_i32_debug,write_i64_display,write_i64_debug",
-    ) else {
-        return other(fmt);
-    };
+    )?;
     match k {
         0..=5 => plain_call(fmt, buf, k, arguments),
         6..=12 => text_call(fmt, buf, k - 6, arguments),
@@ -34,34 +31,32 @@ fn make_call(fmt: Formatter, buf: &mut [u8], call: &[u8]) -> FormatterStep {
 }
 
 // Makes the calls of a line, each behind a semicolon: the last answer.
-fn make_calls(fmt: Formatter, buf: &mut [u8], calls: &[u8]) -> FormatterStep {
-    let mut step = other(fmt);
+fn make_calls(fmt: &mut Formatter, buf: &mut [u8], calls: &[u8]) -> Option<Result<(), Error>> {
+    let mut last = None;
     for call in calls.split(|b| *b == b';').skip(1) {
-        step = make_call(step.fmt, buf, call);
+        last = make_call(fmt, buf, call);
     }
-    step
+    last
 }
 
 // Makes the calls of a line as often as n says: the last answer.
-fn repeat(fmt: Formatter, buf: &mut [u8], calls: &[u8], n: u64) -> FormatterStep {
-    let mut step = other(fmt);
+fn repeat(fmt: &mut Formatter, buf: &mut [u8], calls: &[u8], n: u64) -> Option<Result<(), Error>> {
+    let mut last = None;
     for _ in 0..n {
-        step = make_calls(step.fmt, buf, calls);
+        last = make_calls(fmt, buf, calls);
     }
-    step
+    last
 }
 
 // Makes a call of a line, or for `repeat,N` the calls before it N times more.
 pub(crate) fn play(
-    fmt: Formatter,
+    fmt: &mut Formatter,
     buf: &mut [u8],
     call: &[u8],
     calls_before: &[u8],
-) -> FormatterStep {
+) -> Option<Result<(), Error>> {
     if first_field(call) == b"repeat".as_slice() {
-        let Some(n) = number(later_fields(call), 65536) else {
-            return other(fmt);
-        };
+        let n = number(later_fields(call), 65536)?;
         return repeat(fmt, buf, calls_before, n);
     }
     make_call(fmt, buf, call)

@@ -7,104 +7,51 @@ mod answers;
 mod chars;
 mod escapes;
 mod integers;
+mod printed;
 mod texts;
 
-use fields::{place_of, put_hex, split_field};
-use integer_writes::write_display;
+use fields::split_field;
 use line_input::{LineProgram, answer_lines};
 use lines::MAX_LINE;
+use printed::Printed;
 use std::io;
-use str_writer::put;
-use utils::slice_up_to_len;
+use texts::About;
 
-// Places of words in the list of put_case.
-const ANSWER: usize = 0;
-
-const CHAR: usize = 1;
-
-const PARTS: usize = 2;
-
-pub(crate) const ASCII: usize = 4;
-
-pub(crate) const BOUNDARY: usize = 5;
-
-pub(crate) const RANGE: usize = 6;
-
-const ESCAPE: usize = 8;
-
-// Lays bytes at the cursor as they are.
-pub(crate) fn put_bytes(out: &mut [u8; 8192], at: usize, s: &[u8]) -> usize {
-    put(out, at, s).at
-}
-
-// Lays bytes at the cursor in hexadecimal.
-pub(crate) fn put_pairs(out: &mut [u8; 8192], at: usize, s: &[u8]) -> usize {
-    put_hex(out, at, s).at
-}
-
-// Lays a text at the cursor, with a number for each %: `first` for the first one, then `later`.
-pub(crate) fn put_template(
-    out: &mut [u8; 8192],
-    at: usize,
-    text: &[u8],
-    first: u64,
-    later: u64,
-) -> usize {
-    let mut to = at;
-    for (i, part) in text.split(|b| *b == b'%').enumerate() {
-        if 0 < i {
-            let number = if i == 1 { first } else { later };
-            to = write_display(out, to, number).at;
-        }
-        to = put(out, to, part).at;
-    }
-    to
-}
-
-// Lays what a case prints into out from at on, and gives its end; 0 for a case of another form.
-fn put_case(word: &[u8], fields: &[u8], out: &mut [u8; 8192], at: usize) -> usize {
-    let kinds = b"answer,char,integer,utf8,ascii,boundary,range,quoted,escape";
-    match place_of(word, kinds) {
-        Some(ANSWER) => answers::put_answer(fields, out, at),
-        Some(CHAR) => chars::put_char(fields, out, at),
-        Some(PARTS) => integers::put_parts(fields, out, at),
-        Some(ESCAPE) => escapes::put_escape(fields, out, at),
-        Some(kind) => texts::put_text(kind, fields, out, at),
-        None => integers::put_integer(word, fields, out, at),
+// Lays what a case prints, if it has the form of one.
+fn put_case(word: &[u8], fields: &[u8], out: &mut Printed) -> Option<()> {
+    match word {
+        b"answer" => answers::put_answer(fields, out),
+        b"char" => chars::put_char(fields, out),
+        b"integer" => integers::put_parts(fields, out),
+        b"escape" => escapes::put_escape(fields, out),
+        b"utf8" => texts::put_text(About::Utf8, fields, out),
+        b"ascii" => texts::put_text(About::Ascii, fields, out),
+        b"boundary" => texts::put_text(About::Boundary, fields, out),
+        b"range" => texts::put_text(About::Clamped, fields, out),
+        b"quoted" => texts::put_text(About::Quoted, fields, out),
+        _ => integers::put_integer(word, fields, out),
     }
 }
 
-// Lays what a line prints into out, and gives its end; 0 for a line of another form.
-fn put_line(line: &[u8], out: &mut [u8; 8192]) -> usize {
+// Lays what a line prints, if it has the form of a case.
+fn put_line(line: &[u8], out: &mut Printed) -> Option<()> {
     if MAX_LINE < line.len() {
-        return 0;
+        return None;
     }
-    let Some((word, fields)) = split_field(line) else {
-        return 0;
-    };
-    let at = put_bytes(out, 0, word);
-    let at = put_bytes(out, at, b" ");
-    put_case(word, fields, out, at)
-}
-
-// Copies the bytes before the end of what is laid.
-fn copy(laid: &[u8; 8192], end: usize, out: &mut [u8]) -> usize {
-    put(out, 0, slice_up_to_len(laid, end)).at
+    let (word, fields) = split_field(line)?;
+    out.bytes(word);
+    out.bytes(b" ");
+    put_case(word, fields, out)
 }
 
 // Lays what a line prints into out, and gives its end. A line that begins with # is a comment.
 fn answer(line: &[u8], out: &mut [u8]) -> usize {
-    if 0 < line.len() {
-        if line[0] == b'#' {
-            return 0;
-        }
+    let mut printed = Printed::new(out);
+    if !line.starts_with(b"#") && put_line(line, &mut printed).is_none() {
+        printed.clear();
+        printed.bytes(b"bad\n");
     }
-    let mut laid = [0u8; 8192];
-    let end = put_line(line, &mut laid);
-    if 0 < end {
-        return copy(&laid, end, out);
-    }
-    put(out, 0, b"bad\n").at
+    printed.len()
 }
 
 // The cases, each answered by itself.

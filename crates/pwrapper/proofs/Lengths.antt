@@ -1,14 +1,15 @@
 -- The lengths of the texts of a number: the decimal digits, the sign, the prefix.
-use Rattle.std.specs.Prelude.{◌≡◌, ℕ, ◌+◌, ◌^◌, ◌<◌, ◌≤◌, Bool, true, false, cond, [], ◌∷◌, ◌++◌, length, ℤ, pos, negsuc, unsigned_abs}
-use Rattle.std.specs.Int.{is_negative}
-use mathlib.Core.Path.{refl}
-use borrow.Author.Tests.{le-ltb}
-use native.Mathlib.Nat.{le_trans, pow-le-pow_left}
+use Rattle.std.specs.Prelude.{◌≡◌, ℕ, zero, suc, ◌+◌, ◌^◌, ◌<◌, ◌≤◌, Bool, true, false, cond, [], ◌∷◌, ◌++◌, length, ℤ, pos, negsuc, unsigned_abs}
+use Rattle.std.specs.Int.{is_negative, from_bool}
+use mathlib.Core.Path.{refl, sym, ◌∙◌}
+use mathlib.Core.Logic.{⊎_elim}
+use borrow.Author.Tests.{le-ltb, le-leb, lt-leb}
+use native.Mathlib.Nat.{le_trans, pow-le-pow_left, pow-le-pow_right}
 use native.Mathlib.Omega.{arith}
-use lib.Dec.{lit≤}
+use lib.Dec.{leb, lit≤}
 use Rattle.pwrapper.specs.Digits.{digits, digit_text, dec_digit}
 use Rattle.pwrapper.specs.Number.{decimal, display_text, prefix}
-use Rattle.pwrapper.proofs.Digits.{digits-short, text-length, text-one}
+use Rattle.pwrapper.proofs.Digits.{lt_or_ge, digits-short, digits_low, digits_between, text-length, text-one}
 
 -- at most 64 digits in any base, of a number of 64 bits
 pub at-most-64 : (b : ℕ) → 2 ≤ b → (n : ℕ) → n < 2 ^ 64 → length (digits b n) ≤ 64
@@ -19,6 +20,30 @@ decimal-64 n h = rw (text-length 10 (lit≤ tt) dec_digit n) (at-most-64 10 (lit
 
 pub decimal-one : (n : ℕ) → n < 10 → length (decimal n) ≡ 1
 decimal-one = text-one 10 (lit≤ tt) dec_digit
+
+-- one, and one more for each power of ten up to the kth that n reaches
+unfoldable pub reached : ℕ → ℕ → ℕ
+reached zero n = 1
+reached (suc k) n = reached k n + from_bool (leb (10 ^ suc k) n)
+
+reached-all : (k n : ℕ) → 10 ^ k ≤ n → reached k n ≡ k + 1
+unfolding reached
+reached-all zero n h = refl
+reached-all (suc k) n h =
+    let less : 10 ^ k ≤ n = le_trans (pow-le-pow_right {n = 10} (lit≤ tt) (omega arith)) h in
+    rw (le-leb (10 ^ suc k) n h) (omega (arith, reached-all k n less))
+
+reached-low : (k n : ℕ) → n < 10 ^ suc k → reached k n ≡ length (digits 10 n)
+unfolding reached
+reached-low zero n h = rw (digits_low 10 (lit≤ tt) n h)
+reached-low (suc k) n h = ⊎_elim
+    (λ (l : n < 10 ^ suc k). rw (lt-leb (10 ^ suc k) n l) (omega (arith, reached-low k n l)))
+    (λ (g : 10 ^ suc k ≤ n). reached-all (suc k) n g ∙ sym (digits_between 10 (lit≤ tt) (suc k) n g h))
+    (lt_or_ge n (10 ^ suc k))
+
+-- below the next power of ten these are the digits
+pub decimal-reached : (k n : ℕ) → n < 10 ^ suc k → reached k n ≡ length (decimal n)
+decimal-reached k n h = reached-low k n h ∙ sym (text-length 10 (lit≤ tt) dec_digit n)
 
 -- len is the count of the digits: the text's length, by whether it has a prefix
 pub record Prefixed (f : ℕ → ℕ) (b n x : ℕ) (t : Bool) (len : ℕ) : Type 0 where
@@ -37,3 +62,11 @@ prefixed f b n x t len b2 e h = record {
 pub signed-text : (z : ℤ) → display_text z ≡ cond (is_negative z) (45 ∷ []) [] ++ decimal (unsigned_abs z)
 signed-text (pos n) = rw (le-ltb n 0 (omega arith)) refl
 signed-text (negsuc n) = refl
+
+-- the same of the lengths: an integer's, by its sign and the digits of its absolute value
+pub signed-length : (z : ℤ) (d : ℕ) → d ≡ length (decimal (unsigned_abs z)) → cond (is_negative z) 1 0 + d ≡ length (display_text z)
+signed-length z d e = rw signed-text (go (is_negative z))
+  where
+    go : (b : Bool) → cond b 1 0 + d ≡ length (cond b (45 ∷ []) [] ++ decimal (unsigned_abs z))
+    go true = omega (arith, e)
+    go false = omega (arith, e)

@@ -1,32 +1,12 @@
--- What a range of a text reads.
-use Rattle.std.specs.Prelude.{◌≡◌, ℕ, ◌+◌, ◌-◌, ◌≤◌, List, ◌++◌, length, take, drop}
-use mathlib.Core.Path.{sym, ◌∙◌}
+-- A clamped range is a range of the text.
+use Rattle.std.specs.Prelude.{◌≡◌, ℕ, ◌≤◌, List, length}
 use native.Mathlib.Nat.{min-le_right}
-use native.Mathlib.Omega.{arith}
-use lib.Seq.{slice, take-add, drop-drop, drop_at, length-take-le}
 use Rattle.utils.specs.declared.Range.{Range}
-use Rattle.utils.specs.Text.{saturated, part}
+use Rattle.utils.specs.Text.{saturated}
 
-slice-part : (i j : ℕ) (s : List ℕ) → i ≤ j → j ≤ length s → take (j - i) (drop i s) ≡ slice i j s
-slice-part i j s h k =
-    let e : i + (j - i) ≡ j = omega arith in
-    let t : take j s ≡ take i s ++ take (j - i) (drop i s) = rw e at (take-add i (j - i) s) in
-    rw t (sym (drop_at (take i s) (take (j - i) (drop i s)) i (length-take-le i s (omega arith))))
-
--- a range in two
-pub slice_split : (i m j : ℕ) (s : List ℕ) → i ≤ m → m ≤ j → j ≤ length s → slice i j s ≡ slice i m s ++ slice m j s
-slice_split i m j s h k l =
-    let n : m - i + (j - m) ≡ j - i = omega arith in
-    let d : i + (m - i) ≡ m = omega arith in
-    rw (← slice-part i j s (omega arith) l, ← slice-part i m s h (omega arith), ← slice-part m j s k l, ← n, take-add, drop-drop, d)
-
--- a clamped range is a range of the text
 module _ (s : List ℕ) (r q : Range) (e : q ≡ saturated s r) where
   pub clamped_order : q.start ≤ q.end
   clamped_order = rw e (min-le_right r.start _)
 
   pub clamped_end : q.end ≤ length s
   clamped_end = rw e (min-le_right r.end (length s))
-
-  pub clamped_part : take (q.end - q.start) (drop q.start s) ≡ part s r
-  clamped_part = slice-part q.start q.end s clamped_order clamped_end ∙ rw e

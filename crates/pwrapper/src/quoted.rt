@@ -1,13 +1,11 @@
 // The length of a quoted string.
-ghost use Rattle.std.specs.Prelude.{◌≡◌, ◌+◌, ◌<◌, ◌≤◌, length, Err};
-ghost use Rattle.std.proofs.Math.Seq.{slice};
-ghost use Rattle.error.specs.declared.Error.TheVariants.{CountTooLarge};
+ghost use Rattle.std.specs.Prelude.{◌≡◌, ◌+◌, ◌<◌, ◌≤◌, length};
 ghost use Rattle.utils.specs.Text.{part};
 ghost use Rattle.formatting.specs.Escape.{escape_of, escape_text, escaped, quoted};
 ghost use Rattle.pwrapper.specs.QuotedCount.{count_of};
 
 use error::Error;
-use formatting::{is_backslash_escaped, is_escaped};
+use formatting::{Escape, escape_of};
 use utils::{Range, saturate_range};
 
 // Below this length a text is counted byte by byte.
@@ -21,76 +19,64 @@ pub fn compute_utf8_debug_len(s: &[u8]) -> Result<usize, Error>
     ensures { result ≡ count_of (length (quoted s.now)) }
 {
     if s.len() < SHORT {
-        return few_len(s);
+        return Ok(few_len(s));
     }
     long_len(s)
 }
 
-// The length of the clamped range, quoted.
+// The length of the clamped range, quoted. The test of a short text stands here too: one call more
+// costs a fifth of such a count.
 pub fn compute_utf8_debug_len_in_range(s: &[u8], range: Range) -> Result<usize, Error>
     ensures { result ≡ count_of (length (quoted (part s.now range))) }
 {
     let Range { start, end } = saturate_range(s, range);
     if end - start < SHORT {
-        return few_len(&s[start..end]);
+        return Ok(few_len(&s[start..end]));
     }
     long_len(&s[start..end])
 }
 
 // The same of a short text, byte by byte: the compiler can lay these steps into the caller.
-fn few_len(s: &[u8]) -> Result<usize, Error>
+fn few_len(s: &[u8]) -> usize
     requires { length s.now < 16 }
-    ensures { result ≡ count_of (length (quoted s.now)) }
+    ensures { result ≡ length (quoted s.now) }
 {
-    let mut letters: usize = 0;
-    let mut codes: usize = 0;
-    let mut i = 0;
-    while i < s.len() {
-        let c = s[i];
-        if is_escaped(c) {
-            if is_backslash_escaped(c) {
-                letters += 1;
-            } else {
-                codes += 1;
-            }
-        }
-        i += 1;
+    let mut len = s.len() + 2;
+    for &b in s {
+        len += match escape_of(b) {
+            Escape::Bare => 0,
+            Escape::Backslash(_) => 1,
+            Escape::Hexadecimal => 3,
+        };
     }
-    Ok(s.len() + 2 + letters + 3 * codes)
+    len
 }
 
 // The same of any text, from the costs of up to 64 bytes at a time.
 fn long_len(s: &[u8]) -> Result<usize, Error>
     ensures { result ≡ count_of (length (quoted s.now)) }
 {
-    let mut more: usize = 0;
-    let mut i = 0;
-    while TURN <= s.len() - i {
-        let cost = costs(s, i, i + TURN) as usize;
-        if usize::MAX - more < cost {
-            return too_large();
-        }
-        more += cost;
-        i += TURN;
+    let turns = s.chunks_exact(TURN);
+    let rest = turns.remainder();
+    let mut len = s.len() + 2;
+    for turn in turns {
+        len = len
+            .checked_add(usize::from(costs(turn)))
+            .ok_or(Error::CountTooLarge)?;
     }
-    let cost = costs(s, i, s.len()) as usize;
-    if usize::MAX - more < cost {
-        return too_large();
-    }
-    debug_len(s.len(), more + cost)
+    len.checked_add(usize::from(costs(rest)))
+        .ok_or(Error::CountTooLarge)
 }
 
-// What the escapes of the bytes from start to end add to them. The sum is a byte, so that the
-// compiler can add sixteen side by side.
-fn costs(s: &[u8], start: usize, end: usize) -> u8
-    requires { (start ≤ end) × (end ≤ length s.now) × (end ≤ start + 64) }
-    ensures { start + length (escaped (slice start end s.now)) ≡ end + result }
+// What the escapes of the bytes add to them. The sum is a byte, so that the compiler can add
+// sixteen side by side.
+fn costs(s: &[u8]) -> u8
+    requires { length s.now ≤ 64 }
+    ensures { length (escaped s.now) ≡ length s.now + result }
 {
     let mut sum: u8 = 0;
-    let mut i = start;
-    while i < end {
-        sum += cost_of(s[i]);
-        i += 1;
+    for &b in s {
+        sum += cost_of(b);
     }
     sum
 }
@@ -122,26 +108,4 @@ fn cost_of(b: u8) -> u8
         return 3;
     }
     0
-}
-
-// The bytes, the marks, and what the escapes add.
-fn debug_len(bytes: usize, more: usize) -> Result<usize, Error>
-    ensures { result ≡ count_of (bytes + 2 + more) }
-{
-    let most = usize::MAX;
-    if most - 2 < bytes {
-        return too_large();
-    }
-    let marked = bytes + 2;
-    if most - marked < more {
-        return too_large();
-    }
-    Ok(marked + more)
-}
-
-// A length above 2^64 - 1.
-fn too_large() -> Result<usize, Error>
-    ensures { result ≡ Err CountTooLarge }
-{
-    Err(Error::CountTooLarge)
 }

@@ -1,20 +1,17 @@
 -- Laws of a text written between quotation marks: its escapes one after another, its runs without an escape, and whether it has room.
 use Rattle.std.specs.Prelude.{Ok}
-use mathlib.Core.Bool.{Bool, true, false, cond, not, ◌&&◌}
+use Rattle.std.proofs.Math.Bool.{and_assoc, and-true}
+use mathlib.Core.Bool.{Bool, true, false, not, ◌&&◌}
 use mathlib.Core.Path.{◌≡◌, refl, sym, ap, subst, ◌∙◌}
-use mathlib.Core.Logic.{dite}
 use mathlib.Core.List.{List, [], ◌∷◌, ◌++◌, append_assoc, append-nil}
 use Prim.Native.Nat.{ℕ, ◌+◌, ◌-◌, ◌*◌, ◌≤◌, ◌<◌}
 use native.Mathlib.Numerals.{add-one}
-use native.Mathlib.Decide.{dec_lt}
 use native.Mathlib.Omega.{arith}
 use lib.Dec.{leb, eqb}
 use lib.ListN.{length, take, drop, get_or, set, length-append, length-set, length-drop, take-append-drop, drop_of_length-le}
 use lib.Seq.{take-suc, take_all, length-take-le, sets, sets-eq}
-use borrow.Author.Tests.{le-ltb, le-leb, lt-leb, ne_eqb}
-use Rattle.formatting.proofs.Letters.{low-escaped}
+use borrow.Author.Rules.{rules}
 use Rattle.formatting.specs.declared.escaping.Escape.{Escape}
-use Rattle.formatting.specs.declared.escaping.Escape.TheVariants.{Bare, Backslash, Hexadecimal}
 use Rattle.formatting.specs.Escape.{escape_of, escape_text, is_escaped, escaped, quoted}
 use Rattle.str_writer.specs.Write.{outcome, splice, put}
 use Rattle.str_writer.proofs.Splice.{splice-nil, splice-one, splice-splice, length-splice}
@@ -26,12 +23,7 @@ abbrev pub byte_text : ℕ → List ℕ
 byte_text b = escape_text (escape_of b) b
 
 pub byte_some : (b : ℕ) → (1 ≤ length (byte_text b)) × (length (byte_text b) ≤ 4)
-byte_some b = some (escape_of b)
-  where
-    some : (e : Escape) → (1 ≤ length (escape_text e b)) × (length (escape_text e b) ≤ 4)
-    some Bare = (omega arith, omega arith)
-    some (Backslash l) = (omega arith, omega arith)
-    some Hexadecimal = (omega arith, omega arith)
+byte_some b = search rules
 
 -- the text of the bytes is no shorter than they, and at most four times as long
 pub escaped_long : (s : List ℕ) → (length s ≤ length (escaped s)) × (length (escaped s) ≤ 4 * length s)
@@ -54,12 +46,7 @@ escaped-append (x ∷ a) b = rw (escaped-append a b) (sym (append_assoc (byte_te
 
 -- bytes that stand for themselves
 bare_byte : (b : ℕ) → is_escaped (escape_of b) ≡ false → byte_text b ≡ b ∷ []
-bare_byte b e = go (escape_of b) e
-  where
-    go : (x : Escape) → is_escaped x ≡ false → escape_text x b ≡ b ∷ []
-    go Bare k = refl
-    go (Backslash l) k = let z : ◌≡◌ {A = ℕ} 0 1 = cc in absurd (omega arith)
-    go Hexadecimal k = let z : ◌≡◌ {A = ℕ} 0 1 = cc in absurd (omega arith)
+bare_byte b e = search rules
 
 pub bare-text : (s : List ℕ) → all_bare s ≡ true → escaped s ≡ s
 unfolding escaped
@@ -72,48 +59,20 @@ bare-text (b ∷ bs) h = go (is_escaped (escape_of b)) refl h (λ k. bare-text b
 
 bare-append : (a b : List ℕ) → all_bare (a ++ b) ≡ all_bare a && all_bare b
 bare-append [] b = refl
-bare-append (x ∷ a) b = rw (bare-append a b) (assoc (not (is_escaped (escape_of x))) (all_bare a) (all_bare b))
-  where
-    assoc : (x y z : Bool) → x && (y && z) ≡ (x && y) && z
-    assoc true y z = refl
-    assoc false y z = refl
-
-and_true : (x : Bool) → x && true ≡ x
-and_true true = refl
-and_true false = refl
+bare-append (x ∷ a) b = rw (bare-append a b) (sym (and_assoc (not (is_escaped (escape_of x))) (all_bare a) (all_bare b)))
 
 -- one byte more
 pub bare-more : (s : List ℕ) (i : ℕ) → i < length s → all_bare (take (i + 1) s) ≡ all_bare (take i s) && not (is_escaped (escape_of (get_or s i 0)))
-bare-more s i h = rw (add-one, take-suc s i 0 h, bare-append, and_true (not (is_escaped (escape_of (get_or s i 0)))))
+bare-more s i h = rw (add-one, take-suc s i 0 h, bare-append, and-true (not (is_escaped (escape_of (get_or s i 0)))))
 
 -- a byte stands for itself exactly if it passes the four tests
-bare_high : (b : ℕ) → 32 ≤ b → not (eqb b 34) && (not (eqb b 39) && not (eqb b 92)) ≡ not (is_escaped (escape_of b))
-unfolding escape_of
-bare_high b h =
-    rw (ne_eqb b 9 (λ e. omega arith), ne_eqb b 10 (λ e. omega arith), ne_eqb b 13 (λ e. omega arith), le-ltb b 32 h) (go (eqb b 34) (eqb b 39) (eqb b 92))
-  where
-    go : (q a t : Bool) → not q && (not a && not t) ≡ not (is_escaped (cond t (Backslash 92) (cond a (Backslash 39) (cond q (Backslash 34) Bare))))
-    go true true true = refl
-    go true true false = refl
-    go true false true = refl
-    go true false false = refl
-    go false true true = refl
-    go false true false = refl
-    go false false true = refl
-    go false false false = refl
-
 pub bare_test : (b : ℕ) → (leb 32 b && not (eqb b 34)) && (not (eqb b 39) && not (eqb b 92)) ≡ not (is_escaped (escape_of b))
-bare_test b = dite (dec_lt b 32) (λ h. rw (low-escaped b h, lt-leb 32 b h)) (λ h. rw (le-leb 32 b (omega arith)) (bare_high b (omega arith)))
+unfolding escape_of
+bare_test b = search rules
 
 -- two tests beside two others
 pub both_turn : (x y z u v : Bool) → x && y ≡ z → (x && u) && (y && v) ≡ z && (u && v)
-both_turn true y z u v e = rw (← e) (swap u y v)
-  where
-    swap : (u y v : Bool) → u && (y && v) ≡ y && (u && v)
-    swap u true v = refl
-    swap true false v = refl
-    swap false false v = refl
-both_turn false y z u v e = rw (← e) refl
+both_turn x y z u v e = search rules
 
 -- the bytes from i on, as a part of a slice has them
 pub from_on : (s : List ℕ) (i : ℕ) → take (length s - i) (drop i s) ≡ drop i s

@@ -1,51 +1,92 @@
 // A line read: its head, and its calls as the words of a run.
 use calls::Settings;
-use fields::{first_field, from_hex, later_fields, number, place_of};
-use formatting::flags_of;
+use fields::{first_field, from_hex, later_fields, number};
+use formatting::FormattingFlags;
+use lines::MAX_LINE;
 
-// How many words and how many bytes of text there are.
+// What is done with a run.
 #[derive(Clone, Copy)]
-pub struct Run {
-    pub words: usize,
-    pub text: usize,
+pub(crate) enum Word {
+    Show,
+    Both,
+    Add,
+    Count,
+    Write,
+    Each,
+    Calls,
 }
 
-// The word of a line by its place, the settings and the number N.
+// A run: the settings and the number N of its head, its calls at five words each, and their texts.
 #[derive(Clone, Copy)]
-pub struct Head {
-    pub word: u64,
+pub(crate) struct Run<'a> {
     pub settings: Settings,
     pub n: usize,
+    pub calls: &'a [u64],
+    pub text: &'a [u8],
 }
 
-// `WORD,FLAGS,N,NAME`.
-pub(crate) fn read_head(head: &[u8]) -> Option<Head> {
+// What `WORD` says.
+fn read_word(field: &[u8]) -> Option<Word> {
+    match field {
+        b"show" => Some(Word::Show),
+        b"both" => Some(Word::Both),
+        b"add" => Some(Word::Add),
+        b"count" => Some(Word::Count),
+        b"write" => Some(Word::Write),
+        b"each" => Some(Word::Each),
+        b"calls" => Some(Word::Calls),
+        _ => None,
+    }
+}
+
+// `WORD,FLAGS,N,NAME`: the word, the run with these calls, and the name.
+fn read_head<'a>(
+    head: &'a [u8],
+    calls: &'a [u64],
+    text: &'a [u8],
+) -> Option<(Word, Run<'a>, &'a [u8])> {
     let fields = later_fields(head);
-    let word = place_of(first_field(head), b"show,both,add,count,write,each,calls")?;
-    let flags = number(first_field(fields), 11)?;
-    let n = number(first_field(later_fields(fields)), u64::MAX)?;
-    Some(Head {
-        word: word as u64,
-        settings: Settings {
-            flags: flags_of(flags),
-        },
-        n: n as usize,
+    let rest = later_fields(fields);
+    let word = read_word(first_field(head))?;
+    let flags = FormattingFlags::try_from(number(first_field(fields), u64::MAX)?).ok()?;
+    let n = number(first_field(rest), u64::MAX)? as usize;
+    let run = Run {
+        settings: Settings { flags },
+        n,
+        calls,
+        text,
+    };
+    Some((word, run, later_fields(rest)))
+}
+
+// The first word of a call by its name. It stays a number: a run is lent its calls as C has them, by
+// client/table_text.h; 21 is the first number that is no call.
+fn first_word(name: &[u8]) -> Option<u64> {
+    Some(match name {
+        b"open_struct" => 0,
+        b"open_tuple" => 1,
+        b"open_list" => 2,
+        b"open_set" => 3,
+        b"field" => 4,
+        b"tuple_field" => 5,
+        b"entry" => 6,
+        b"finish" => 7,
+        b"sub_formatter" => 8,
+        b"end_formatter" => 9,
+        b"str" => 10,
+        b"str_debug" => 11,
+        b"ascii" => 12,
+        b"ascii_debug" => 13,
+        b"char" => 14,
+        b"char_debug" => 15,
+        b"repeated" => 16,
+        b"unsigned" => 17,
+        b"unsigned_debug" => 18,
+        b"signed" => 19,
+        b"signed_debug" => 20,
+        b"no_call" => 21,
+        _ => return None,
     })
-}
-
-// The name in `WORD,FLAGS,N,NAME`.
-pub(crate) fn name_of(head: &[u8]) -> &[u8] {
-    later_fields(later_fields(later_fields(head)))
-}
-
-// The number of a call. The names stand in the order of client/table_text.h, the last one for the
-// first number that is no call.
-fn call_number(name: &[u8]) -> Option<u64> {
-    let names =
-        b"open_struct,open_tuple,open_list,open_set,field,tuple_field,entry,finish,sub_formatter,\
-          end_formatter,str,str_debug,ascii,ascii_debug,char,char_debug,repeated,unsigned,\
-          unsigned_debug,signed,signed_debug,no_call";
-    Some(place_of(name, names)? as u64)
 }
 
 // A field that is left out is 0.
@@ -56,60 +97,46 @@ fn number_or_0(field: &[u8]) -> Option<u64> {
     number(field, u64::MAX)
 }
 
-// Reads a text behind the texts that are there: where it ends.
-fn read_text(pool: &mut [u8], from: usize, field: &[u8]) -> Option<usize> {
-    if pool.len() < from {
-        return None;
-    }
-    let len = from_hex(field, &mut pool[from..])?;
-    from.checked_add(len)
-}
-
-// Lays a word behind those that are there, if there is room: how many there are then.
-fn lay_word(words: &mut [u64], at: usize, v: u64) -> usize {
-    if at < words.len() {
-        words[at] = v;
-        return at + 1;
-    }
-    at
-}
-
-// Lays the five words of a call behind the words, and its text behind the texts.
-fn lay_call(
-    run: Run,
-    words: &mut [u64],
-    pool: &mut [u8],
-    call: u64,
-    text: &[u8],
-    a: u64,
-    b: u64,
-) -> Option<Run> {
-    let end = read_text(pool, run.text, text)?;
-    let one = lay_word(words, run.words, call);
-    let two = lay_word(words, one, run.text as u64);
-    let three = lay_word(words, two, (text.len() / 2) as u64);
-    let four = lay_word(words, three, a);
-    Some(Run {
-        words: lay_word(words, four, b),
-        text: end,
-    })
-}
-
-// Lays the call `NAME,TEXT,A,B`.
-fn read_call(call: &[u8], run: Run, words: &mut [u64], pool: &mut [u8]) -> Option<Run> {
+// The words of the call `NAME,TEXT,A,B`, whose text is read to a place of the pool of texts.
+fn read_call(call: &[u8], pool: &mut [u8], start: usize) -> Option<[u64; 5]> {
     let fields = later_fields(call);
     let numbers = later_fields(fields);
-    let number = call_number(first_field(call))?;
+    let first = first_word(first_field(call))?;
+    let len = from_hex(first_field(fields), pool.get_mut(start..)?)?;
     let a = number_or_0(first_field(numbers))?;
     let b = number_or_0(later_fields(numbers))?;
-    lay_call(run, words, pool, number, first_field(fields), a, b)
+    Some([first, start as u64, len as u64, a, b])
 }
 
-// The calls of a line, each behind a semicolon, if each has the form of one.
-pub(crate) fn read_run(calls: &[u8], words: &mut [u64], pool: &mut [u8]) -> Option<Run> {
-    let mut run = Run { words: 0, text: 0 };
-    for call in calls.split(|b| *b == b';').skip(1) {
-        run = read_call(call, run, words, pool)?;
+// Reads the calls of a line, each behind a semicolon, to the beginning of `words`, and their texts
+// one behind another to `pool`: the words of the calls, if each has the form of one and there is room.
+fn read_calls<'a>(calls: &[u8], words: &'a mut [u64], pool: &mut [u8]) -> Option<&'a [u64]> {
+    let n = calls.iter().filter(|b| **b == b';').count();
+    let words = words.get_mut(..n.checked_mul(5)?)?;
+    let mut start = 0usize;
+    for (call, to) in calls
+        .split(|b| *b == b';')
+        .skip(1)
+        .zip(words.chunks_exact_mut(5))
+    {
+        let read = read_call(call, pool, start)?;
+        start = start.checked_add(read[2] as usize)?;
+        to.copy_from_slice(&read);
     }
-    Some(run)
+    Some(words)
+}
+
+// Reads a line, with room for its words and its texts: what is done, the run, and its name.
+pub(crate) fn read_line<'a>(
+    line: &'a [u8],
+    words: &'a mut [u64],
+    pool: &'a mut [u8],
+) -> Option<(Word, Run<'a>, &'a [u8])> {
+    if MAX_LINE < line.len() {
+        return None;
+    }
+    let n = line.iter().position(|b| *b == b';').unwrap_or(line.len());
+    let (head, calls) = line.split_at(n);
+    let calls = read_calls(calls, words, pool)?;
+    read_head(head, calls, pool)
 }

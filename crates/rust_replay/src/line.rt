@@ -6,18 +6,15 @@ use lines::MAX_LINE;
 use run::{Ran, count_run, write_run};
 use utils::slice_up_to_len;
 
-// Reads the first fields of a line as decimals, as many as words has: what stands behind them, or
-// nothing where one of them is of another form.
-fn decimals<'a>(line: &'a [u8], words: &mut [u64]) -> &'a [u8] {
+// Reads the first fields of a line as decimals, as many as words has: what stands behind them, if each
+// of them is one.
+fn decimals<'a>(line: &'a [u8], words: &mut [u64]) -> Option<&'a [u8]> {
     let mut rest = line;
     for word in words {
-        let Some(n) = number(first_field(rest), u64::MAX) else {
-            return &[];
-        };
-        *word = n;
+        *word = number(first_field(rest), u64::MAX)?;
         rest = later_fields(rest);
     }
-    rest
+    Some(rest)
 }
 
 // Gives a buffer the content that it has before a write.
@@ -38,35 +35,30 @@ fn put_given(counted: Ran, written: Ran, buf: &[u8], out: &mut [u8]) -> usize {
     bytes.at
 }
 
-// Whether the run of a line gives what const_format gave. Of a line of another form nothing is left
-// to compare with, or something that no run gives.
-pub(crate) fn is_same(line: &[u8]) -> bool {
+// Whether the run of a line gives what const_format gave, if the line has the form of one. Its flags
+// and calls stay the numbers of client/table_text.h that the line gives.
+pub(crate) fn is_same(line: &[u8]) -> Option<bool> {
     let mut head = [0u64; 4];
     let mut word_space = [0u64; 200];
     let mut text_space = [0u8; 400];
     let mut buf_space = [0u8; 400];
     let mut given = [0u8; 1024];
-    let calls = decimals(line, &mut head);
-    let size = head[2];
-    let n = head[3];
+    let calls = decimals(line, &mut head)?;
+    let [flags, cursor, size, n] = head;
     if MAX_LINE < line.len() || 400 < size || 200 < n {
-        return false;
+        return None;
     }
-    let room = size as usize;
-    let k = n as usize;
-    let words = &mut word_space[0..k];
-    let texts = decimals(calls, words);
-    let Some(len) = from_hex(first_field(texts), &mut text_space) else {
-        return false;
-    };
-    let settings = Settings {
-        flags: flags_of(head[0]),
-    };
+    let words = &mut word_space[..n as usize];
+    let buf = &mut buf_space[..size as usize];
+    let texts = decimals(calls, words)?;
+    let len = from_hex(first_field(texts), &mut text_space)?;
     let text = slice_up_to_len(&text_space, len);
-    let buf = &mut buf_space[0..room];
+    let settings = Settings {
+        flags: flags_of(flags),
+    };
     fill(buf);
     let counted = count_run(settings, words, text);
-    let written = write_run(settings, buf, head[1] as usize, words, text);
+    let written = write_run(settings, buf, cursor as usize, words, text);
     let end = put_given(counted, written, buf, &mut given);
-    later_fields(texts) == slice_up_to_len(&given, end)
+    Some(later_fields(texts) == slice_up_to_len(&given, end))
 }

@@ -13,18 +13,18 @@ use std::rt::Files;
 use str_writer::write_ascii;
 use utils::slice_up_to_len;
 
-// How many bytes are left to read, at most 131,072.
+// How many bytes are left to read.
 fn unread<R: Read>(input: &mut R) -> u64 {
-    let mut space = [0u8; 131072];
-    let mut n = 0;
-    while n < space.len() {
-        let more = input.read(&mut space[n..]).unwrap_or(0);
+    let mut space = [0u8; 65536];
+    let mut n: u64 = 0;
+    for _ in 0..u64::MAX {
+        let more = input.read(&mut space).unwrap_or(0);
         if more == 0 {
             break;
         }
-        n += more;
+        n = n.saturating_add(more as u64);
     }
-    n as u64
+    n
 }
 
 // Lays a text, a name and a line feed.
@@ -37,13 +37,11 @@ fn lay_name(out: &mut [u8], s: &[u8], name: &[u8]) -> usize {
 // Where the sheets behind the word `closed` or `full` are answered, so that each write fails; None
 // at another word.
 fn output_of<R: Files>(rt: &R, word: &[u8]) -> io::Result<Option<R::File>> {
-    if word == b"closed".as_slice() {
-        return Ok(Some(File::open(rt, "/dev/null")?));
+    match word {
+        b"closed" => Ok(Some(File::open(rt, "/dev/null")?)),
+        b"full" => Ok(Some(File::create(rt, "/dev/full")?)),
+        _ => Ok(None),
     }
-    if word == b"full".as_slice() {
-        return Ok(Some(File::create(rt, "/dev/full")?));
-    }
-    Ok(None)
 }
 
 // The file of a name, open for reading.
@@ -80,12 +78,11 @@ fn main(rt: HostRuntime) -> io::Result<()> {
     let mut output = None;
     for i in 1..usize::MAX {
         let mut word = [0u8; 4096];
-        let length = match rt.arg(i, &mut word) {
-            Ok(length) => length,
-            Err(FillError::TooLong) => 0,
+        let path: &[u8] = match rt.arg(i, &mut word) {
+            Ok(length) => &word[..length],
+            Err(FillError::TooLong) => &[],
             Err(FillError::NotPresent) => break,
         };
-        let path = &word[..length];
         let next = output_of(&rt, path)?;
         if next.is_some() {
             output = next;

@@ -4,16 +4,15 @@
 mod integer_value;
 
 ghost use Rattle.std.specs.Prelude.{◌≡◌, true, List, ℕ, ◌+◌, ◌%◌, ◌^◌, length, replicate};
-ghost use Rattle.error.specs.Answer.{done, fault_number, answer_number};
+ghost use Rattle.error.specs.Answer.{answer_number, fault_number};
 ghost use Rattle.formatting.specs.declared.flags.FormattingFlags as Flags;
 ghost use Rattle.utils.specs.Text.{part};
-ghost use Rattle.char_encoding.specs.Char.{unless_no_char};
+ghost use Rattle.char_encoding.specs.Char.{char_len};
 ghost use Rattle.pwrapper.specs.Number.{debug_parts, twos_complement};
 ghost use Rattle.str_writer.specs.Value.{char, str, ascii, text_of, string_text, input_fault, cut_fault};
 ghost use Rattle.str_writer.specs.Value.{Form as ValueForm};
-ghost use Rattle.calls.specs.Model.{put, beyond};
-ghost use Rattle.writer_backend.specs.Output.{mode_of, is_counting, output_of, put_out};
-ghost use Rattle.value_writes.specs.Values.{form_of, bits_of, heeded_by, integer_of, text_of_parts, value_of, judged_in, value_out};
+ghost use Rattle.writer_backend.specs.Output.{mode_of, is_counting, put_out};
+ghost use Rattle.value_writes.specs.Values.{form_of, bits_of, heeded_by, integer_of, text_of_parts, value_of, judged_in, emitted, value_judged, value_out};
 
 use char_encoding::{char_debug_len, char_display_len};
 use error::Error;
@@ -160,7 +159,8 @@ pub fn greatest(width: Width) -> u64
     }
 }
 
-// The two's complement at a width.
+// The two's complement at a width, by the sum that document 01 has: a cast would take the last bits of
+// a number that does not fit the width, which has another text.
 fn bits_at(width: Width, x: i64) -> u64
     ensures { result ≡ twos_complement (bits_of width) x }
 {
@@ -174,8 +174,7 @@ fn bits_at(width: Width, x: i64) -> u64
 // An integer counted or written. Its functions have one call site each: the compiler lays them into
 // the run's loop.
 fn put_integer(writer: &mut WriterBackend, buf: &mut [u8], p: Parts) -> Result<(), Error>
-    requires { beyond (mode_of writer.old) buf.old ≡ done }
-    ensures { put_out result writer.new buf.new ≡ put (output_of writer.old buf.old) (text_of_parts p) }
+    ensures { put_out result writer.new buf.new ≡ emitted (mode_of writer.old) buf.old (text_of_parts p) }
 {
     let Parts {
         flags,
@@ -201,8 +200,7 @@ fn debug_len(is_negative: bool, n: u64, bits: u64, flags: FormattingFlags) -> us
 }
 
 fn put_char(writer: &mut WriterBackend, buf: &mut [u8], form: Form, c: u32) -> Result<(), Error>
-    requires { beyond (mode_of writer.old) buf.old ≡ done }
-    ensures { (f : Flags.FormattingFlags) → put_out result writer.new buf.new ≡ value_out writer.old buf.old f (char (form_of form) c) }
+    ensures { (f : Flags.FormattingFlags) → put_out result writer.new buf.new ≡ value_judged writer.old buf.old f (char (form_of form) c) }
 {
     if writer.is_counting() {
         return writer.add_len(char_len(form, c)?);
@@ -216,7 +214,7 @@ fn put_char(writer: &mut WriterBackend, buf: &mut [u8], form: Form, c: u32) -> R
 }
 
 fn char_len(form: Form, c: u32) -> Result<usize, Error>
-    ensures { (f : Flags.FormattingFlags) → result ≡ unless_no_char c (length (text_of f (char (form_of form) c))) }
+    ensures { (f : Flags.FormattingFlags) → result ≡ char_len c (text_of f (char (form_of form) c)) }
 {
     match form {
         Form::Display => char_display_len(c),
@@ -242,8 +240,7 @@ fn put_str(
     s: &[u8],
     range: Range,
 ) -> Result<(), Error>
-    requires { beyond (mode_of writer.old) buf.old ≡ done }
-    ensures { (f : Flags.FormattingFlags) → put_out result writer.new buf.new ≡ value_out writer.old buf.old f (str (form_of form) s.now range) }
+    ensures { (f : Flags.FormattingFlags) → put_out result writer.new buf.new ≡ value_judged writer.old buf.old f (str (form_of form) s.now range) }
 {
     judge_str(*writer, s, range)?;
     put_string(writer, buf, form, s, range)
@@ -256,8 +253,7 @@ fn put_ascii(
     s: &[u8],
     range: Range,
 ) -> Result<(), Error>
-    requires { beyond (mode_of writer.old) buf.old ≡ done }
-    ensures { (f : Flags.FormattingFlags) → put_out result writer.new buf.new ≡ value_out writer.old buf.old f (ascii (form_of form) s.now range) }
+    ensures { (f : Flags.FormattingFlags) → put_out result writer.new buf.new ≡ value_judged writer.old buf.old f (ascii (form_of form) s.now range) }
 {
     ascii_fault(s)?;
     put_string(writer, buf, form, s, range)
@@ -273,8 +269,7 @@ fn put_string(
     s: &[u8],
     range: Range,
 ) -> Result<(), Error>
-    requires { beyond (mode_of writer.old) buf.old ≡ done }
-    ensures { put_out result writer.new buf.new ≡ put (output_of writer.old buf.old) (string_text (form_of form) (part s.now range)) }
+    ensures { put_out result writer.new buf.new ≡ emitted (mode_of writer.old) buf.old (string_text (form_of form) (part s.now range)) }
 {
     if writer.is_counting() {
         return add_string(writer, form, s, range);
@@ -289,7 +284,7 @@ fn put_string(
 // The length of a clamped range, bare or quoted, added to the total.
 fn add_string(writer: &mut WriterBackend, form: Form, s: &[u8], range: Range) -> Result<(), Error>
     requires { is_counting (mode_of writer.old) ≡ true }
-    ensures { (b : List ℕ) → put_out result writer.new b ≡ put (output_of writer.old b) (string_text (form_of form) (part s.now range)) }
+    ensures { (b : List ℕ) → put_out result writer.new b ≡ emitted (mode_of writer.old) b (string_text (form_of form) (part s.now range)) }
 {
     match form {
         Form::Display => {
@@ -297,14 +292,14 @@ fn add_string(writer: &mut WriterBackend, form: Form, s: &[u8], range: Range) ->
             writer.add_len(end - start)
         }
         Form::Debug => {
-            writer.add_len(compute_utf8_debug_len_in_range(s, range)?)
+            let len = compute_utf8_debug_len_in_range(s, range)?;
+            writer.add_len(len)
         }
     }
 }
 
 fn put_repeated(writer: &mut WriterBackend, buf: &mut [u8], c: u8, n: usize) -> Result<(), Error>
-    requires { beyond (mode_of writer.old) buf.old ≡ done }
-    ensures { put_out result writer.new buf.new ≡ put (output_of writer.old buf.old) (replicate n (c % 128)) }
+    ensures { put_out result writer.new buf.new ≡ emitted (mode_of writer.old) buf.old (replicate n (c % 128)) }
 {
     if writer.is_counting() {
         return writer.add_len(n);

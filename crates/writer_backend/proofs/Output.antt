@@ -4,17 +4,14 @@ use mathlib.Core.Path.{◌≡◌, refl, sym, ap, ◌∙◌}
 use mathlib.Core.List.{List}
 use Prim.Native.Nat.{ℕ, zero, suc, ◌+◌, ◌%◌, ◌≤◌, ◌<◌}
 use native.Mathlib.Omega.{arith}
-use lib.Dec.{eqb}
 use lib.ListN.{length}
 use borrow.Author.Tests.{lt-ltb}
-use Rattle.calls.specs.Model.{number_in, to, counting, writing, put_in, put, wrote}
-use Rattle.std.specs.Prelude.{Result}
-use Rattle.error.specs.declared.Error.{Error}
-use Rattle.str_writer.specs.Write.{written as written_at, outcome, placed}
+use Rattle.calls.specs.Model.{to, counting, writing, put_in, put, wrote}
+use Rattle.str_writer.specs.Write.{Written, outcome, placed}
 use Rattle.str_writer.specs.Write.{put as put_text}
 use Rattle.str_writer.proofs.Outcomes.{put-placed}
 use Rattle.writer_backend.specs.declared.pieces.WriterBackend.{WriterBackend}
-use Rattle.writer_backend.specs.Output.{as_mode, mode_of, is_counting, with_number, moved_by, added, output_of}
+use Rattle.writer_backend.specs.Output.{as_mode, mode_of, is_counting, moved_by, added, output_of}
 
 as_counting : (t n : ℕ) → is_counting (as_mode t n) ≡ true → as_mode t n ≡ counting n
 as_counting zero n e = absurd (false≢true e)
@@ -23,25 +20,6 @@ as_counting (suc t) n e = refl
 as_writing : (t n : ℕ) → is_counting (as_mode t n) ≡ false → as_mode t n ≡ writing n
 as_writing zero n e = refl
 as_writing (suc t) n e = absurd (false≢true (sym e))
-
--- at another number
-pub as_at : (t n x : ℕ) → as_mode t x ≡ with_number (as_mode t n) x
-as_at zero n x = refl
-as_at (suc t) n x = refl
-
-as_number : (t n : ℕ) → number_in (as_mode t n) ≡ n
-as_number zero n = refl
-as_number (suc t) n = refl
-
--- the number of the mode is that of the output
-pub number_in_lem : (w : WriterBackend) → number_in (mode_of w) ≡ w.number
-number_in_lem w = as_number (w.mode % 2) w.number
-
--- a remainder of 1 is counting
-pub by_remainder : (t n : ℕ) → t < 2 → eqb t 1 ≡ is_counting (as_mode t n)
-by_remainder zero n h = refl
-by_remainder (suc zero) n h = refl
-by_remainder (suc (suc t)) n h = absurd (omega (arith, h))
 
 -- the mode that `is_counting` tells
 module _ (w : WriterBackend) {r : Bool} (e : r ≡ is_counting (mode_of w)) where
@@ -65,9 +43,8 @@ module _ (w : WriterBackend) (b : List ℕ) (e : mode_of w ≡ writing w.number)
   put-writes h = rw (e, ← put-placed b w.number s h)
 
 -- a single write at a cursor within the bytes, as a piece
-pub written : (w : WriterBackend) {r : Bool} → r ≡ is_counting (mode_of w) → r ≡ false → (b : List ℕ) {b' : List ℕ} (t : List ℕ) (x : Result ℕ Error) → w.number ≤ length b → outcome (written_at w.number x) b' ≡ put_text b w.number t
-    → moved_by (mode_of w) b' (written_at w.number x) ≡ put (output_of w b) t
+pub written : (w : WriterBackend) {r : Bool} → r ≡ is_counting (mode_of w) → r ≡ false → (b : List ℕ) {b' : List ℕ} (t : List ℕ) (x : Written) → w.number ≤ length b → outcome x b' ≡ put_text b w.number t → moved_by (mode_of w) b' x ≡ put (output_of w b) t
 written w e q b {b'} t x h p =
     let m = writes w e q in
-    let same : moved_by (mode_of w) b' (written_at w.number x) ≡ wrote (outcome (written_at w.number x) b') = rw m in
+    let same : moved_by (mode_of w) b' x ≡ wrote (outcome x b') = rw m in
     same ∙ ap wrote p ∙ put-writes w b m t h

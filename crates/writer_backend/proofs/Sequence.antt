@@ -8,22 +8,19 @@ use native.Mathlib.Omega.{arith}
 use lib.Dec.{ltb}
 use lib.ListN.{length}
 use borrow.Author.Tests.{le-ltb, ltb-false}
-use Rattle.std.proofs.Common.{Option, Ok, Err}
+use Rattle.std.proofs.Common.{Option, Some, None, Ok, Err}
+use Rattle.std.specs.Option.{unwrap_or}
 use Rattle.std.specs.Result.{is_ok}
 use Rattle.calls.specs.declared.Kind.{Kind}
-use Rattle.calls.specs.declared.Kind.TheVariants.{Struct, Tuple, List as ListKind, Set}
-use Rattle.calls.specs.Call.{Place, of_kind, separator, place_pieces, label_pieces, hold}
+use Rattle.calls.specs.Call.{Place, separator, place_pieces, label_pieces, hold}
 use Rattle.error.specs.declared.Error.{Error}
 use Rattle.error.specs.declared.Error.TheVariants.{NotEnoughSpace, NotAscii, NotOnCharBoundary, NotUtf8, NotAChar, CountTooLarge, TooDeep, WrongCall, BadCursor}
 use Rattle.error.specs.Answer.{Answer, number_of, answer_number}
-use Rattle.str_writer.specs.Write.{Outcome, placed}
 use Rattle.calls.specs.Model.{Mode, Output, PieceOutcome, counting, writing, to, most, wrote, put_in, put, tries}
-use Rattle.writer_backend.specs.declared.record.PlaceKind.{PlaceKind}
-use Rattle.writer_backend.specs.declared.record.PlaceKind.TheVariants.{Field, Item}
-use Rattle.writer_backend.specs.declared.record.PlaceKind.TheVariants as place-kind
 use Rattle.writer_backend.specs.declared.pieces.WriterBackend.{WriterBackend}
 use Rattle.writer_backend.specs.Output.{mode_of, added, output_of, put_out, held_of, held_number, held_out}
-use Rattle.writer_backend.specs.Pieces.{try_on, try_all, length_of, margin_pieces, place_of}
+use Rattle.str_writer.specs.Write.{Outcome, placed}
+use Rattle.writer_backend.specs.Pieces.{try_on, try_all, length_of, margin_pieces}
 
 hold-hold : (a b c : ℕ) → hold (hold a b) c ≡ hold a (hold b c)
 hold-hold zero b c = refl
@@ -32,19 +29,6 @@ hold-hold (suc a) b c = refl
 pub hold-zero : (a : ℕ) → hold a 0 ≡ a
 hold-zero zero = refl
 hold-zero (suc a) = refl
-
--- one piece, tried
-pub tries-one : (d : Output) (s : List ℕ) → put d s ≡ tries d (s ∷ [])
-tries-one d s = λ i. record { answer = sym (hold-zero (put d s).answer) i; output = (put d s).output }
-
--- whether a place is of the right kind does not depend on a name
-pub kind_any : (p : PlaceKind) (s : List ℕ) (k : Kind) → of_kind (place_of p s) k ≡ of_kind (place_of p []) k
-kind_any Field s Struct = refl
-kind_any Field s Tuple = refl
-kind_any Field s ListKind = refl
-kind_any Field s Set = refl
-kind_any Item s k = refl
-kind_any place-kind.Entry s k = refl
 
 -- what goes before a field or an entry: the separator, the margin, the label
 module _ (k : Kind) (n : ℕ) (x : Place) where
@@ -56,32 +40,6 @@ module _ (k : Kind) (n : ℕ) (x : Place) where
 
   pub pieces-tried : (p : PieceOutcome) (has alt : Bool) {s : List ℕ} {a b r : PieceOutcome} → s ≡ separator k has alt → a ≡ try_on p s → b ≡ try_all a (margin_pieces alt n) → r ≡ try_all b (label_pieces x) → r ≡ try_all p (place_pieces k has alt n x)
   pieces-tried p has alt e f g h = rw (h, g, f, e) (pieces_by p has alt)
-
-  pub pieces-length : (has alt : Bool) → length_of (place_pieces k has alt n x) ≡ length (separator k has alt) + length_of (margin_pieces alt n) + length_of (label_pieces x)
-  pieces-length true true = omega arith
-  pieces-length true false = omega arith
-  pieces-length false true = omega arith
-  pieces-length false false = omega arith
-
--- the length of a separator: the later ones, the first of a struct, and an opening bracket by the form
-abbrev pub separator_len : Kind → Bool → Bool → ℕ
-separator_len k true alt = 2
-separator_len Struct false alt = 3
-separator_len Tuple false alt = cond alt 2 1
-separator_len ListKind false alt = cond alt 2 1
-separator_len Set false alt = cond alt 2 1
-
-pub separator-length : (k : Kind) (has alt : Bool) → separator_len k has alt ≡ length (separator k has alt)
-separator-length k true true = refl
-separator-length k true false = refl
-separator-length Struct false true = refl
-separator-length Struct false false = refl
-separator-length Tuple false true = refl
-separator-length Tuple false false = refl
-separator-length ListKind false true = refl
-separator-length ListKind false false = refl
-separator-length Set false true = refl
-separator-length Set false false = refl
 
 -- a piece answers 0, 1 or 6: what a builder holds of it is what it answers
 abbrev wrote_number : Outcome → ℕ
@@ -155,11 +113,18 @@ tried a d (s ∷ ss) =
     tried (hold a (put d s).answer) (put d s).output ss
     ∙ λ i. record { answer = hold-hold a (put d s).answer (tries (put d s).output ss).answer i; output = (tries (put d s).output ss).output }
 
-held_answer : (d : Output) (s : List ℕ) (r : Answer) {d' : Output} → record { answer = answer_number r; output = d' } ≡ put d s → held_of (answer_number r) ≡ answer_number r
-held_answer d s r e = let q : answer_number r ≡ (put d s).answer = ap (λ (o : PieceOutcome). o.answer) e in rw q (put_held d s)
+-- the first refusal is held
+pub first_held : (h : Option Error) (e x : Error) → x ≡ unwrap_or h e → held_number (Some x) ≡ hold (held_number h) (held_of (number_of e))
+first_held None e x p = rw p
+first_held (Some y) e x p = rw (p, error_number y) (above (number_of y - 1) (held_of (number_of e)))
+  where
+    above : (n a : ℕ) → held_of (suc n) ≡ hold (held_of (suc n)) a
+    above zero a = refl
+    above (suc n) a = refl
 
 -- a piece tried after others: the first refusal is held
 pub holds_tried : (h h' : Option Error) (w w' : WriterBackend) (b b' s : List ℕ) (r : Answer) → put_out r w' b' ≡ put (output_of w b) s → held_number h' ≡ hold (held_number h) (held_of (answer_number r)) → held_out h' w' b' ≡ try_on (held_out h w b) s
 unfolding try_on
 holds_tried h h' w w' b b' s r e q =
-    rw (← e, q) (ap (λ x. record { answer = hold (held_number h) x; output = output_of w' b' }) (held_answer (output_of w b) s r e))
+    let q' : answer_number r ≡ (put (output_of w b) s).answer = ap (λ (o : PieceOutcome). o.answer) e in
+    rw (← e, q) (ap (λ x. record { answer = hold (held_number h) x; output = output_of w' b' }) (rw q' (put_held (output_of w b) s)))

@@ -1,10 +1,10 @@
 // A piece of text counted or written, and pieces tried one after another.
 ghost use Rattle.std.specs.Prelude.{◌≡◌, List, ℕ};
 ghost use Rattle.error.specs.Answer.{answer_number};
+ghost use Rattle.str_writer.specs.Write.{written};
 ghost use Rattle.calls.specs.Call.{spaces, hold};
 ghost use Rattle.calls.specs.Model.{counting, writing, beyond};
 ghost use Rattle.calls.specs.Model.{put as put_text};
-ghost use Rattle.str_writer.specs.Write.{written};
 ghost use Rattle.writer_backend.specs.Output.{mode_of, is_counting, moved_by, added, output_of, put_out, held_of, held_number, held_out};
 ghost use Rattle.writer_backend.specs.Pieces.{try_on};
 
@@ -75,10 +75,10 @@ impl WriterBackend {
     }
 
     // What a single write answered, as that of a piece: the cursor goes where it went.
-    pub fn advance(&mut self, w: Result<usize, Error>) -> Result<(), Error>
-        ensures { (b : List ℕ) → put_out result self.new b ≡ moved_by (mode_of self.old) b (written self.old.number w) }
+    pub fn advance(&mut self, cursor: Result<usize, Error>) -> Result<(), Error>
+        ensures { (b : List ℕ) → put_out result self.new b ≡ moved_by (mode_of self.old) b (written self.old.number cursor) }
     {
-        self.number = w?;
+        self.number = cursor?;
         Ok(())
     }
 

@@ -1,13 +1,12 @@
 use mathlib.Core.Path.{◌∙◌}
-use Rattle.writer_backend.proofs.Output.{adds}
 use Rattle.value_writes.specs.Values.{text_of_parts}
-use Rattle.value_writes.proofs.ValueLaws.{written_within}
+use Rattle.value_writes.proofs.ValueLaws.{emits_len, emits}
 use Rattle.value_writes.proofs.put_integer.Goals as goal
 
 pub returns-then-is_counting : goal.returns-then-is_counting
 returns-then-is_counting c = let a = c.args in
-    c.add_len.ensures a.buf.now ∙ adds a.writer.now c.is_counting.ensures c.if-is_counting.true a.buf.now (text_of_parts a.p) c.debug_len.ensures
+    c.add_len.ensures a.buf.now ∙ emits_len a.writer.now c.is_counting.ensures c.if-is_counting.true a.buf.now (text_of_parts a.p) c.debug_len.ensures
 
 pub returns : goal.returns
 returns c = let a = c.args in
-    c.advance.ensures _ ∙ written_within a.writer.now c.is_counting.ensures c.if-is_counting.false a.buf.now c.requires (text_of_parts a.p) c.write_debug_parts.result c.write_debug_parts.ensures.buf_after
+    c.advance.ensures _ ∙ emits a.writer.now c.is_counting.ensures c.if-is_counting.false a.buf.now (text_of_parts a.p) _ c.write_debug_parts.ensures.buf_after

@@ -1,16 +1,10 @@
--- the sum of the bytes from start to i, of which none costs more than 3
-use Rattle.std.specs.Prelude.{◌≡◌}
+-- the sum of the first bytes, of which none costs more than 3
 use native.Mathlib.Omega.{arith}
 use Rattle.pwrapper.proofs.Escapes.{none_passed, byte_passed}
 use Rattle.pwrapper.proofs.quoted.costs.Goals as goal
 
-pub loop-i-init : goal.loop-i-init
-loop-i-init c = (none_passed _ _ (omega arith), omega arith, omega arith)
+pub loop-b-init : goal.loop-b-init
+loop-b-init c = (none_passed _, omega arith)
 
-pub loop-i-preserved : goal.loop-i-preserved
-loop-i-preserved c = (byte_passed c.loop-i.invariant.0 _ (omega arith) (omega arith), omega arith, omega arith)
-
-pub returns : goal.returns
-returns c = let l = c.loop-i in
-    let e : l.i ≡ c.args.end = omega arith in
-    rw e at l.invariant.0.all
+pub loop-b-preserved : goal.loop-b-preserved
+loop-b-preserved c = (byte_passed c.loop-b.invariant.0 _ c.loop-b-test.true (omega arith), omega arith)

@@ -1,10 +1,7 @@
--- the sum of the bytes from start to i, of which none costs more than 3
-use Rattle.std.specs.Prelude.{◌+◌, ◌-◌, ◌*◌, ◌≤◌}
+-- the sum of the first bytes, of which none costs more than 3
+use Rattle.std.specs.Prelude.{◌*◌, ◌≤◌}
 use Rattle.pwrapper.proofs.Escapes.{Passed}
 use Rattle.pwrapper.proofs.quoted.costs.Given as goal
 
-abbrev pub invariant-loop-i : goal.invariant-loop-i
-invariant-loop-i l = Passed l.s l.start l.sum l.i × (l.i ≤ l.end) × (l.sum + 3 * l.start ≤ 3 * l.i)
-
-abbrev pub decreases-loop-i : goal.decreases-loop-i
-decreases-loop-i l = l.end - l.i
+abbrev pub invariant-loop-b : goal.invariant-loop-b
+invariant-loop-b l = Passed l.s l.sum l.b-index × (l.sum ≤ 3 * l.b-index)

@@ -1,34 +1,23 @@
--- the counts of the first i bytes
-use Rattle.std.specs.Prelude.{◌≡◌, ◌+◌, ◌*◌, length, get_or}
-use mathlib.Core.Path.{sym, ap, ◌∙◌}
+-- the bytes, the marks, and what the escapes of the first bytes add
+use Rattle.std.specs.Prelude.{◌≡◌, ◌+◌, ◌≤◌, length, get_or}
 use native.Mathlib.Omega.{arith}
-use Rattle.formatting.specs.Escape.{escape_of, quoted}
-use Rattle.pwrapper.specs.QuotedCount.{count_of}
-use Rattle.pwrapper.proofs.Escapes.{escape_length, none_passed, byte_passed, all-passed, count_fits}
+use Rattle.formatting.specs.Escape.{escape_of, escape_text}
+use Rattle.pwrapper.proofs.Escapes.{none_passed, byte_passed, all-passed}
 use Rattle.pwrapper.proofs.quoted.few_len.Goals as goal
-use Rattle.pwrapper.proofs.quoted.few_len.Goals.{then-is_escaped+then-is_backslash_escaped, then-is_escaped+else-is_backslash_escaped, else-is_escaped}
+use Rattle.pwrapper.proofs.quoted.few_len.Goals.{in-Bare, in-Backslash, in-Hexadecimal}
 
-pub loop-i-init : goal.loop-i-init
-loop-i-init c = (none_passed _ _ (omega arith), omega arith)
+pub loop-b-init : goal.loop-b-init
+loop-b-init c = (0, omega arith, none_passed _, omega arith)
+
+pub loop-b-preserved : goal.loop-b-preserved
+loop-b-preserved c =
+    let l = c.loop-b in
+    let more : let b = get_or c.args.s.now c.loop-b.b-index 0 in (length (escape_text (escape_of b) b) ≡ c.match-escape_of.len + 1) × (c.match-escape_of.len ≤ 3) = elim c.match-escape_of.branch [
+      | in-Bare w ↦ rw (w.len-is, ← w.in-Bare.ensures) (omega arith)
+      | in-Backslash w ↦ rw (w.len-is, ← w.in-Backslash.ensures) (omega arith)
+      | in-Hexadecimal w ↦ rw (w.len-is, ← w.in-Hexadecimal.ensures) (omega arith)
+    ] in
+    (l.invariant.0 + c.match-escape_of.len, omega arith, byte_passed l.invariant.2 _ c.loop-b-test.true (omega (arith, more.0)), omega (arith, more.1))
 
 pub returns : goal.returns
-returns c = let l = c.loop-i in
-    let s = c.args.s.now in
-    let e : length s + 2 + l.letters + 3 * l.codes ≡ length (quoted s) = omega (arith, all-passed l.invariant.0 c.loop-i-test.false) in
-    sym (count_fits _ (omega arith)) ∙ ap count_of e
-
-pub loop-i-preserved : goal.loop-i-preserved
-loop-i-preserved c =
-    let l = c.loop-i in
-    let b = get_or c.args.s.now l.i 0 in
-    let n = escape_length (escape_of b) b in
-    let next = byte_passed l.invariant.0 in
-    let h = c.loop-i-test.true in
-    let escapes = sym c.is_escaped.ensures in
-    elim c.if-is_escaped.branch [
-      | then-is_escaped+then-is_backslash_escaped w ↦
-          rw (w.letters-is, w.codes-is) (next _ h (omega (arith, rw (escapes ∙ w.if-is_escaped.true, sym w.is_backslash_escaped.ensures ∙ w.if-is_backslash_escaped.true) at n)), omega arith)
-      | then-is_escaped+else-is_backslash_escaped w ↦
-          rw (w.letters-is, w.codes-is) (next _ h (omega (arith, rw (escapes ∙ w.if-is_escaped.true, sym w.is_backslash_escaped.ensures ∙ w.if-is_backslash_escaped.false) at n)), omega arith)
-      | else-is_escaped w ↦ rw (w.letters-is, w.codes-is) (next _ h (omega (arith, rw (escapes ∙ w.if-is_escaped.false) at n)), omega arith)
-    ]
+returns c = omega (arith, all-passed c.loop-b.invariant.2 c.loop-b-test.false)

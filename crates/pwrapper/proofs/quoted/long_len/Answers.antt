@@ -1,30 +1,23 @@
--- what the escapes of the first i bytes add, which is a usize
-use mathlib.Core.Path.{sym, ap, ◌∙◌}
-use Rattle.std.specs.Prelude.{◌+◌, length}
+-- what is counted so far, and the bytes that are left
+use mathlib.Core.Path.{◌∙◌}
 use native.Mathlib.Omega.{arith}
-use Rattle.pwrapper.specs.QuotedCount.{count_of}
-use Rattle.pwrapper.proofs.Escapes.{Passed, none_passed, bytes-passed, all-passed, too_many, count-passes}
+use Rattle.std.proofs.lemmas.Result.{err_from_is_err_and}
+use Rattle.pwrapper.proofs.Escapes.{next-turn, turn-passes, count-passes, sum-counted, counted-ok, counted-err}
 use Rattle.pwrapper.proofs.quoted.long_len.Goals as goal
 
-pub loop-i-init : goal.loop-i-init
-loop-i-init c = (none_passed _ _ (omega arith), omega arith)
+pub returns-in_err-len : goal.returns-in_err-len
+returns-in_err-len c =
+    let sum = sum-counted _ _ c.checked_add.ensures in
+    let err = counted-err _ _ (c.in_err-len.ensures.value ∙ sum) in
+    let passes = turn-passes c.loop-turn.invariant.3 c.in-Some.turn.now _ c.costs.result c.in-Some.ensures.steps.1.0 c.costs.ensures (omega (arith, err.1)) in
+    let back = err_from_is_err_and c.from_residual.result c.from_residual.ensures.1 in
+    rw (count-passes _ passes, back.1, back.2, err.0)
 
-pub returns-then-more-cost : goal.returns-then-more-cost
-returns-then-more-cost c =
-    let turn : let l = c.loop-i in Passed c.args.s.now 0 (l.more + c.costs-cost.result) (l.i + 64) = bytes-passed c.loop-i.invariant.0 _ _ (omega arith) (omega arith) (omega arith) in
-    c.too_large.ensures ∙ sym (count-passes _ (too_many turn (omega arith)))
-
-pub loop-i-preserved : goal.loop-i-preserved
-loop-i-preserved c =
-    let turn : let l = c.loop-i in Passed c.args.s.now 0 (l.more + c.costs-cost.result) (l.i + 64) = bytes-passed c.loop-i.invariant.0 _ _ (omega arith) (omega arith) (omega arith) in
-    (turn, omega arith)
-
-pub returns-then-more-cost-2 : goal.returns-then-more-cost-2
-returns-then-more-cost-2 c =
-    let rest : let s = c.args.s.now in Passed s 0 (c.loop-i.more + c.costs-cost-2.result) (length s) = bytes-passed c.loop-i.invariant.0 _ _ (omega arith) (omega arith) (omega arith) in
-    c.too_large-then-more-cost-2.ensures ∙ sym (count-passes _ (too_many rest (omega arith)))
-
-pub returns : goal.returns
-returns c =
-    let rest : let s = c.args.s.now in Passed s 0 (c.loop-i.more + c.costs-cost-2.result) (length s) = bytes-passed c.loop-i.invariant.0 _ _ (omega arith) (omega arith) (omega arith) in
-    c.debug_len.ensures ∙ ap count_of (all-passed rest (omega arith))
+pub loop-turn-preserved : goal.loop-turn-preserved
+loop-turn-preserved c =
+    let st = c.in-Some.ensures.steps in
+    let inv = c.loop-turn.invariant in
+    let size = st.0 ∙ inv.2 in
+    let len = counted-ok _ _ (c.in_ok-len.ensures.value ∙ sum-counted _ _ c.checked_add.ensures) in
+    let turn = next-turn inv.3 c.in-Some.turn.now _ c.costs.result st.1.0 c.costs.ensures (st.1.1 ∙ inv.2) in
+    (rw size (omega arith), tt, size, rw (len, c.from.ensures) turn)

@@ -1,6 +1,6 @@
-use Rattle.std.proofs.Common.{◌≡◌, ◌<◌, ◌+◌, length, rules, arith, sym, ◌∙◌}
+use Rattle.std.proofs.Common.{◌≡◌, ◌<◌, ◌+◌, length, rules, arith}
 use Rattle.writer_backend.specs.Output.{output_of}
-use Rattle.formatter.specs.View.{depth_of, stack_of}
+use Rattle.formatter.specs.View.{depth_of}
 use Rattle.formatter.proofs.Laws.{stack_more, length_stack}
 use Rattle.formatter.proofs.Steps.{held_name, open_done}
 use Rattle.formatter.proofs.head.Head.open.Goals as goal

@@ -13,4 +13,4 @@ returns-then-buf-self c = let a = c.args in
 pub returns : goal.returns
 returns c = let a = c.args in
     c.advance.ensures _
-    ∙ written a.self.now c.is_counting.ensures c.if-is_counting.false a.buf.now a.s.now c.put.result c.if-buf-self.false c.put.ensures
+    ∙ written a.self.now c.is_counting.ensures c.if-is_counting.false a.buf.now a.s.now _ c.if-buf-self.false c.put.ensures

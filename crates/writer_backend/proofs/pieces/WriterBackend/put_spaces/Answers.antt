@@ -17,5 +17,5 @@ returns-then-buf-self c = let a = c.args in
 pub returns : goal.returns
 returns c = let a = c.args in
     c.advance.ensures _
-    ∙ written a.self.now c.is_counting.ensures c.if-is_counting.false a.buf.now (spaces a.k) c.write_ascii_repeated.result c.if-buf-self.false
+    ∙ written a.self.now c.is_counting.ensures c.if-is_counting.false a.buf.now (spaces a.k) _ c.if-buf-self.false
     (c.write_ascii_repeated.ensures ∙ sym (repeated-put default_flags a.buf.now a.self.now.number c.if-buf-self.false 32 a.k))
