@@ -82,22 +82,6 @@ from_on s i = take_all (length s - i) (drop i s) (omega (arith, length-drop i s)
 pub escaped-parts : (s : List ℕ) (i : ℕ) → escaped (take i s) ++ escaped (drop i s) ≡ escaped s
 escaped-parts s i = sym (escaped-append (take i s) (drop i s)) ∙ ap escaped (take-append-drop i s)
 
--- one byte more
-module _ (s : List ℕ) (i : ℕ) (h : i < length s) where
-  pub escaped-more : escaped (take i s) ++ byte_text (get_or s i 0) ≡ escaped (take (i + 1) s)
-  unfolding escaped
-  escaped-more = rw (add-one, take-suc s i 0 h, escaped-append, append-nil) refl
-
-  pub more-room : length (escaped (take i s)) + length (byte_text (get_or s i 0)) ≤ length (escaped s)
-  more-room =
-      omega (
-        arith,
-        ap length (escaped-parts s (i + 1)),
-        length-append (escaped (take (i + 1) s)) (escaped (drop (i + 1) s)),
-        ap length escaped-more,
-        length-append (escaped (take i s)) (byte_text (get_or s i 0)),
-      )
-
 -- one text behind another
 pub writes-append : (b : List ℕ) (w : ℕ) (s t : List ℕ) (m end : ℕ) (c d : List ℕ) → w + length s ≤ length b → Writes b w s m c → Writes c m t end d → Writes b w (s ++ t) end d
 writes-append b w s t m end c d h x y =
@@ -197,6 +181,26 @@ module _ {b₀ : List ℕ} {w : ℕ} {s b : List ℕ} {at : ℕ} {rest : List �
         whole = l.whole ∙ ap (λ (t : List ℕ). l.front ++ t) (sym (take-append-drop n rest)) ∙ sym (append_assoc l.front (take n rest) (drop n rest));
         written = rw (escaped-append l.front (take n rest)) (writes-append b₀ w (escaped l.front) (escaped (take n rest)) at m b c (omega (arith, sizes)) l.written k);
       }
+
+-- the bytes of it up to an escape are written, as a part of a slice has the rest of them
+pub left-bare : {b₀ : List ℕ} {w : ℕ} {s b : List ℕ} {at : ℕ} {rest : List ℕ} → w + length (escaped s) ≤ length b₀ → Left b₀ w s b at rest
+    → (n : ℕ) (c : List ℕ) → CopiesBare b at rest n c → Left b₀ w s c (at + n) (take (length rest - n) (drop n rest))
+left-bare {b = b} {at = at} {rest = rest} r l n c k = rw (from_on rest n) (left-block r l n (at + n) c (copies-writes b at rest n c k))
+
+-- its first byte is written
+module _ {b₀ : List ℕ} {w : ℕ} {s b : List ℕ} {at x : ℕ} {xs : List ℕ} (r : w + length (escaped s) ≤ length b₀) (l : Left b₀ w s b at (x ∷ xs)) where
+  pub left-byte-room : at + length (byte_text x) ≤ length b₀
+  unfolding escaped
+  left-byte-room = rw (append-nil (byte_text x)) at (left-block-room r l 1)
+
+  pub left-byte : (m : ℕ) (c : List ℕ) → Writes b at (byte_text x) m c → Left b₀ w s c m xs
+  unfolding escaped
+  left-byte m c k = left-block r l 1 m c (rw (append-nil (byte_text x)) k)
+
+-- nothing is left
+pub left-none : {b₀ : List ℕ} {w : ℕ} {s b : List ℕ} {at : ℕ} (rest : List ℕ) → w + length (escaped s) ≤ length b₀ → Left b₀ w s b at rest → length rest ≡ 0 → Writes b₀ w (escaped s) at b
+left-none {b = b} {at = at} [] r l e = left-end r l at b (writes-none b at)
+left-none (x ∷ xs) r l e = absurd (omega (arith, e))
 
 -- a text that has room is put, where it is written
 pub put-writes : (b : List ℕ) (at : ℕ) (t : List ℕ) (end : ℕ) (c : List ℕ) → at ≤ length b → length t ≤ length b - at → Writes b at t end c → outcome (record { at = end; answer = Ok tt }) c ≡ put b at t
