@@ -1,5 +1,5 @@
 use Rattle.std.proofs.Common.{rules}
-use Rattle.line_input.proofs.Going.{going-begins, going-answers, going-reads, going-ends}
+use Rattle.line_input.proofs.Going.{going-begins, going-answers, going-reads}
 use Rattle.line_input.proofs.program.answer_lines.Goals as goal
 
 pub loop-init : goal.loop-init
