@@ -1,12 +1,13 @@
 -- Demand 3: the counting run, the writing run and the ledger agree.
+use Rattle.std.proofs.lemmas.Grind.{common_steps}
+use borrow.Author.Rules.{rules}
 use mathlib.Core.Path.{◌≡◌, refl, ap, ◌∙◌}
 use mathlib.Core.List.{List, [], ◌∷◌, flatten}
 use Prim.Native.Nat.{ℕ, zero, suc, ◌+◌, ◌≤◌}
-use native.Mathlib.Nat.{add-zero, zero-add}
+use native.Mathlib.Nat.{zero-add}
 use native.Mathlib.Decide.{dec_le}
 use native.Mathlib.Omega.{arith}
 use lib.ListN.{length}
-use Rattle.str_writer.proofs.Splice.{splice-nil}
 use Rattle.calls.specs.declared.Settings.{Settings}
 use Rattle.calls.specs.Call.{Call}
 use Rattle.calls.specs.Ledger.{Ledger, feed, ledger, fresh, Permitted}
@@ -33,8 +34,7 @@ permitted-done L [] p = tt
 permitted-done L (c ∷ cs) p = (p.0, permitted-done (feed L c) cs p.1)
 
 no_cut : (m : Mode) → cut_in m 0 ≡ 0
-no_cut (counting n) = refl
-no_cut (writing p) = refl
+no_cut m = search rules
 
 whole_uncut : (m : Mode) (cs : List Call) → AllWhole cs → AllUncut m cs
 whole_uncut m [] w = tt
@@ -43,8 +43,7 @@ whole_uncut m (c ∷ cs) w = (rw w.0 (no_cut m), whole_uncut m cs w.1)
 -- the formatter that a run starts with is that of the fresh ledger
 pub start_law : (m : Mode) (b : List ℕ) (S : Settings) → start m b S ≡ state_of m b (fresh S)
 unfolding flatten
-start_law (counting n) b S = rw add-zero
-start_law (writing p) b S = rw (splice-nil b p, add-zero)
+start_law m b S = grind (arith, common_steps)
 
 pub start_tracks : (m : Mode) (b : List ℕ) (S : Settings) → number_in m ≤ cap_of m b → Tracks m b (fresh S) (start m b S)
 unfolding flatten

@@ -1,7 +1,8 @@
 -- What a sender relies on: counting answered 0 throughout and left nothing open, so nothing was refused and nothing is held, and the list is permitted and closed.
+use borrow.Author.Rules.{rules}
 use mathlib.Core.Path.{◌≡◌, refl, sym, ap, ◌∙◌}
 use mathlib.Core.List.{List, [], ◌∷◌, ◌++◌}
-use Prim.Native.Nat.{ℕ, zero, suc, ◌+◌, ◌≤◌}
+use Prim.Native.Nat.{ℕ, ◌+◌, ◌≤◌}
 use native.Mathlib.Nat.{zero-add}
 use native.Mathlib.Omega.{arith}
 use lib.ListN.{length, take, drop}
@@ -16,12 +17,10 @@ use Rattle.agreement.proofs.Agree.{done_first, start_tracks, agree}
 
 -- what answers 0 has met nothing
 guard-met : (n : ℕ) (F : State) (o : Out) → (guard n F o).answer ≡ 0 → n ≡ 0
-guard-met zero F o e = refl
-guard-met (suc n) F o e = absurd (omega arith)
+guard-met n F o e = search rules
 
 hold_right : (a b : ℕ) → hold a b ≡ 0 → b ≡ 0
-hold_right zero b e = e
-hold_right (suc a) b e = absurd (omega arith)
+hold_right a b e = search rules
 
 -- counting tests no boundaries
 counting_uncut : (n : ℕ) (cs : List Call) → AllUncut (counting n) cs
@@ -38,8 +37,8 @@ all_whole p b (c ∷ cs) F k d =
 
 none-entries : (p : List Open) → entries p ≡ [] → p ≡ []
 none-entries [] z = refl
-none-entries (building B ∷ p) z = absurd (omega (arith, ap length z))
-none-entries (within f ∷ p) z = absurd (omega (arith, ap length z))
+none-entries (building B ∷ p) z = cc
+none-entries (within f ∷ p) z = cc
 
 -- a formatter with nothing open holds nothing: the pile is empty too, and the pieces have gone out
 closed : (m : Mode) (b : List ℕ) (L : Ledger) (F : State) → Tracks m b L F → F.stack ≡ [] → (L.pile ≡ []) × Fits m b L.pieces × (F.output ≡ after m b L.pieces)

@@ -1,4 +1,5 @@
 -- From the first piece that does not fit on, the call answers the code, or a builder holds it until it is answered.
+use borrow.Author.Rules.{rules}
 use mathlib.Core.Bool.{false}
 use mathlib.Core.Path.{◌≡◌, refl, ap, ◌∙◌}
 use mathlib.Core.Logic.{◌⊎◌, inl, inr}
@@ -12,15 +13,14 @@ use Rattle.str_writer.specs.Value.{text_of}
 use Rattle.calls.specs.Call.{Place, Call, opens, place, value, sub, endsub, finish, open_pieces, place_pieces, close_pieces}
 use Rattle.calls.specs.Ledger.{Open, building, within, Ledger, margin_of, top, has_printed, meets, change, changed, feed, ledger, Permitted}
 use Rattle.calls.specs.Ledger.{Builder as Having}
-use Rattle.calls.specs.Model.{Mode, number_in, counting, writing, Output, put, tries, stops, emit_close, Entry, builder, outer, State, Out, inner, fault_of, guard, Run, run}
+use Rattle.calls.specs.Model.{Mode, number_in, Output, put, tries, stops, emit_close, Entry, builder, outer, State, Out, inner, fault_of, guard, Run, run}
 use Rattle.agreement.specs.Agreement.{first_refusal}
 use Rattle.agreement.proofs.Output.{cap_of, code_of, after, Fits, Passes, put-over, tries-over, stops-answer, hold_code, Coded, Kept, KeptIn, kept_after, put_kept, put-coded, tries-coded}
 use Rattle.agreement.proofs.Keeping.{tries_keep, stops_keep}
 use Rattle.agreement.proofs.Moves.{holding, depth, raised, lower, Uncut, AllUncut, fault_law, state_of, does, does_law, same-fault}
 
 answer-held : (m : Mode) (d : Output) (us : List (List ℕ)) → (emit_close (code_of m) d us).answer ≡ code_of m
-answer-held (counting n) d us = refl
-answer-held (writing p) d us = refl
+answer-held m d us = search rules
 
 module _ (m : Mode) (b : List ℕ) where
   -- entries as a pile has them, of which the innermost builder that holds a refusal holds the code; what is outside it, and flags, do not matter
@@ -30,9 +30,7 @@ module _ (m : Mode) (b : List ℕ) where
     under : (f g : FormattingFlags) (p : List Open) (s : List Entry) → Holds p s → Holds (within f ∷ p) (outer (record { flags = g; margin = margin_of p }) ∷ s)
 
   holds-top : {p : List Open} {s : List Entry} → Holds p s → inner s ≡ top p
-  holds-top (here B p s e) = refl
-  holds-top (above B p s h) = refl
-  holds-top (under f g p s h) = refl
+  holds-top h = search rules
 
   holds-depth : {p : List Open} {s : List Entry} → Holds p s → length s ≡ length p
   holds-depth (here B p s e) = ap suc e
@@ -40,9 +38,7 @@ module _ (m : Mode) (b : List ℕ) where
   holds-depth (under f g p s h) = ap suc (holds-depth h)
 
   pub holds_open : {p : List Open} {s : List Entry} → Holds p s → (0 < length p) × (0 < length s)
-  holds_open (here B p s e) = (omega arith, omega arith)
-  holds_open (above B p s h) = (omega arith, omega arith)
-  holds_open (under f g p s h) = (omega arith, omega arith)
+  holds_open h = search rules
 
   holds-coded : (B : Having) (p : List Open) (s : List Entry) (a : ℕ) → Coded m a → Holds p s → Holds (building B ∷ p) (builder (holding a B) ∷ s)
   holds-coded B p s a (inl e) h = rw e (above B p s h)
@@ -127,9 +123,7 @@ module _ (m : Mode) (b : List ℕ) where
     over-place (within g ∷ p) x h = absurd (no_piece h)
 
     over-endsub : (p : List Open) → Over p endsub
-    over-endsub [] h = absurd (no_piece h)
-    over-endsub (building B ∷ p) h = absurd (no_piece h)
-    over-endsub (within g ∷ p) h = absurd (no_piece h)
+    over-endsub p h = search rules
 
     over-finish : (p : List Open) → Over p finish
     over-finish [] h = absurd (no_piece h)

@@ -1,4 +1,5 @@
 -- The formatter is a function of the ledger, call by call, as long as nothing is refused for want of room.
+use borrow.Author.Rules.{rules}
 use mathlib.Core.Path.{◌≡◌, refl, sym, ap, ◌∙◌}
 use mathlib.Core.List.{List, [], ◌∷◌, ◌++◌, append_assoc, append-nil}
 use Prim.Native.Nat.{ℕ, zero, suc, ◌+◌, ◌-◌, ◌*◌}
@@ -28,9 +29,7 @@ entries (building B ∷ p) = builder (holding 0 B) ∷ entries p
 entries (within f ∷ p) = outer (record { flags = f; margin = margin_of p }) ∷ entries p
 
 inner-top : (p : List Open) → inner (entries p) ≡ top p
-inner-top [] = refl
-inner-top (building B ∷ p) = refl
-inner-top (within f ∷ p) = refl
+inner-top p = search rules
 
 pub depth : (p : List Open) → length (entries p) ≡ length p
 depth [] = refl
@@ -76,8 +75,7 @@ abbrev pub does : State → Call → Out
 does F c = settled (holds c) (move F c) (emit F c)
 
 hold-zero : (a : ℕ) → hold a 0 ≡ a
-hold-zero zero = refl
-hold-zero (suc a) = refl
+hold-zero a = search rules
 
 module _ (m : Mode) (b : List ℕ) where
   -- a formatter whose entries and margin are as the pile has them judges as the ledger does
@@ -106,9 +104,7 @@ module _ (m : Mode) (b : List ℕ) where
     does-place (within g ∷ p) x e h = absurd (omega arith)
 
     does-endsub : (p : List Open) → meets (lg p) endsub ≡ 0 → Follows (lg p) endsub
-    does-endsub [] e = absurd (omega arith)
-    does-endsub (building B ∷ p) e = absurd (omega arith)
-    does-endsub (within g ∷ p) e = rw append-nil
+    does-endsub p e = search rules
 
     does-finish : (p : List Open) → meets (lg p) finish ≡ 0 → Fits m b (changed (lg p) (change (lg p) finish)).pieces → Follows (lg p) finish
     does-finish [] e h = absurd (omega arith)

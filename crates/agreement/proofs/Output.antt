@@ -1,20 +1,21 @@
 -- What pieces do to the count and to the lent bytes: laws for both modes at once.
+use Rattle.std.proofs.lemmas.Grind.{common_steps}
+use borrow.Author.Rules.{rules}
 use mathlib.Core.Path.{◌≡◌, refl, sym, ap, ◌∙◌}
 use mathlib.Core.Logic.{◌⊎◌, inl, inr}
 use mathlib.Core.List.{List, [], ◌∷◌, ◌++◌, append_assoc, append-nil, flatten}
-use Prim.Native.Nat.{ℕ, zero, suc, ◌+◌, ◌≤◌, ◌<◌}
+use Prim.Native.Nat.{ℕ, ◌+◌, ◌≤◌, ◌<◌}
 use native.Mathlib.Nat.{add_assoc}
 use native.Mathlib.Decide.{dec_le}
 use native.Mathlib.Omega.{arith}
 use lib.ListN.{length, take, drop, length-append}
 use lib.Seq.{take-append-le, take-take, length-take-le, drop_at, drop-drop}
-use borrow.Author.Tests.{lt-ltb, le-ltb}
 use Rattle.error.specs.declared.Error.TheVariants.{NotEnoughSpace, CountTooLarge}
 use Rattle.error.specs.Answer.{number_of}
 use Rattle.str_writer.specs.Write.{splice, placed}
 use Rattle.str_writer.proofs.Splice.{splice-splice, length-splice}
 use Rattle.calls.specs.Call.{hold}
-use Rattle.calls.specs.Model.{Mode, number_in, counting, writing, Output, PieceOutcome, to, most, put_in, put, go_on, tries, stops, beyond, cut_in}
+use Rattle.calls.specs.Model.{Mode, number_in, counting, writing, Output, PieceOutcome, to, most, put_in, put, tries, stops, beyond, cut_in}
 use Rattle.agreement.specs.Untouched.{OnlyBetween, LeavesRest}
 
 flatten-append : (ts us : List (List ℕ)) → flatten (ts ++ us) ≡ flatten ts ++ flatten us
@@ -68,13 +69,11 @@ fits-left m b ts us h = omega (arith, rw length_both at h)
 -- what one piece does, by whether it fits
 in_fits : (m : Mode) (b t : List ℕ) → Room m b t → put_in m b t ≡ record { answer = 0; output = with_text m b t }
 unfolding placed
-in_fits (counting n) b t h = rw (le-ltb _ _ h)
-in_fits (writing p) b t h = rw (le-ltb _ _ h)
+in_fits m b t h = search rules
 
 in_over : (m : Mode) (b t : List ℕ) → cap_of m b < number_in m + length t → put_in m b t ≡ to m b (code_of m)
 unfolding placed
-in_over (counting n) b t h = rw (lt-ltb _ _ h)
-in_over (writing p) b t h = rw (lt-ltb _ _ h)
+in_over m b t h = search rules
 
 in_cases : (P : PieceOutcome → Type 0) (m : Mode) (b t : List ℕ)
     → (Room m b t → P (record { answer = 0; output = with_text m b t })) → P (to m b (code_of m)) → P (put_in m b t)
@@ -85,8 +84,7 @@ in_cases P m b t y n = go (dec_le (number_in m + length t) (cap_of m b))
     go (no h) = rw (in_over m b t (omega arith)) n
 
 pub hold_code : (m : Mode) (a : ℕ) → hold (code_of m) a ≡ code_of m
-hold_code (counting n) a = refl
-hold_code (writing p) a = refl
+hold_code m a = search rules
 
 module _ (b : List ℕ) where
   pub put_law : (m : Mode) (ts : List (List ℕ)) (t : List ℕ) → Fits m b (ts ++ t ∷ [])
@@ -136,19 +134,11 @@ module _ (b : List ℕ) where
 -- pieces that stop at the first refusal answer what tried ones do
 pub stops-answer : (d : Output) (us : List (List ℕ)) → (stops d us).answer ≡ (tries d us).answer
 stops-answer d [] = refl
-stops-answer d (u ∷ us) = go (put d u).answer (put d u) _ refl (stops-answer (put d u).output us)
-  where
-    go : (a : ℕ) (r next : PieceOutcome) {x : ℕ} → r.answer ≡ a → next.answer ≡ x → (go_on a r next).answer ≡ hold a x
-    go zero r next e k = k
-    go (suc a) r next e k = e
+stops-answer d (u ∷ us) = grind (arith, common_steps, stops-answer (put d u).output us)
 
 -- pieces answer 0 or the code of the mode
 abbrev pub Coded : Mode → ℕ → Type 0
 Coded m a = (a ≡ 0) ⊎ (a ≡ code_of m)
-
-hold-coded : (m : Mode) (a x : ℕ) → Coded m a → Coded m x → Coded m (hold a x)
-hold-coded m a x (inl e) k = rw e k
-hold-coded m a x (inr e) k = rw e (inr (hold_code m x))
 
 -- What every piece keeps: the rest of the bytes, and a cursor that is in them
 abbrev Within : Mode → List ℕ → Type 0
@@ -163,20 +153,13 @@ KeptIn m₀ b₀ d = Kept m₀ b₀ d.mode d.bytes
 
 -- so the code is the same, 3 is met in the same runs, and the cursor is in the lent bytes
 same_code : (m₀ : Mode) (b₀ : List ℕ) (m : Mode) (b : List ℕ) → Kept m₀ b₀ m b → code_of m ≡ code_of m₀
-same_code (counting n) b₀ (counting m) b h = refl
-same_code (counting n) b₀ (writing c) b h = absurd h.0
-same_code (writing p) b₀ (counting m) b h = absurd h.0
-same_code (writing p) b₀ (writing c) b h = refl
+same_code m₀ b₀ m b h = search rules
 
 pub same-cut : (m₀ : Mode) (b₀ : List ℕ) (m : Mode) (b : List ℕ) (c : ℕ) → Kept m₀ b₀ m b → cut_in m c ≡ cut_in m₀ c
-same-cut (counting n) b₀ (counting m) b c h = refl
-same-cut (counting n) b₀ (writing a) b c h = absurd h.0
-same-cut (writing p) b₀ (counting m) b c h = absurd h.0
-same-cut (writing p) b₀ (writing a) b c h = refl
+same-cut m₀ b₀ m b c h = search rules
 
 pub inside : (m : Mode) (b : List ℕ) → Within m b → beyond m b ≡ 0
-inside (counting m) b h = refl
-inside (writing c) b h = rw (le-ltb (length b) c h)
+inside m b h = search rules
 
 -- a text behind the cursor leaves the rest
 rest-splice : (p : ℕ) (b₀ : List ℕ) (c : ℕ) (b t : List ℕ) → OnlyBetween b₀ p b c → c + length t ≤ length b → OnlyBetween b₀ p (splice b c t) (c + length t)
@@ -194,12 +177,10 @@ rest-splice p b₀ c b t h k =
 
 -- a run leaves it at its start, and once pieces that fit have gone out
 pub rest-start : (m : Mode) (b : List ℕ) → LeavesRest m b m b
-rest-start (counting n) b = refl
-rest-start (writing p) b = record { forward = omega arith; size = refl; before = refl; behind = refl }
+rest-start m b = search rules
 
 pub kept_start : (m : Mode) (b : List ℕ) → number_in m ≤ cap_of m b → Kept m b m b
-kept_start (counting n) b h = (refl, tt)
-kept_start (writing p) b h = (rest-start (writing p) b, h)
+kept_start m b h = search rules
 
 pub kept_after : (m : Mode) (b : List ℕ) (ts : List (List ℕ)) → Fits m b ts → KeptIn m b (after m b ts)
 kept_after (counting n) b ts h = (refl, tt)
@@ -229,6 +210,4 @@ module _ (m₀ : Mode) (b₀ : List ℕ) where
 
   pub tries-coded : (d : Output) (us : List (List ℕ)) → KeptIn m₀ b₀ d → Coded m₀ (tries d us).answer
   tries-coded d [] h = inl refl
-  tries-coded d (u ∷ us) h =
-      hold-coded m₀ _ _ (put-coded d u h)
-      (tries-coded (put d u).output us (put_kept m₀ b₀ d.mode d.bytes u h))
+  tries-coded d (u ∷ us) h = grind (arith, common_steps, hold_code m₀, put-coded d u h, tries-coded (put d u).output us (put_kept m₀ b₀ d.mode d.bytes u h))

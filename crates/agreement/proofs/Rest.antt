@@ -1,7 +1,8 @@
 -- No list of calls touches a byte before the cursor that it starts with, or from the cursor on that it ends with.
+use borrow.Author.Rules.{rules}
 use mathlib.Core.List.{List}
 use Prim.Native.Nat.{ℕ}
-use Rattle.calls.specs.Model.{Mode, number_in, counting, writing}
+use Rattle.calls.specs.Model.{Mode, number_in, writing}
 use Rattle.agreement.specs.Untouched.{OnlyBetween, LeavesRest, RestUntouched}
 use Rattle.agreement.proofs.Output.{rest-start, put_rest}
 use Rattle.agreement.proofs.Keeping.{run_keep}
@@ -14,5 +15,4 @@ rest_untouched F cs =
 
 -- a run that starts writing ends writing, at its last cursor
 pub rest-written : (p : ℕ) (b : List ℕ) (m : Mode) (c : List ℕ) → LeavesRest (writing p) b m c → OnlyBetween b p c (number_in m)
-rest-written p b (counting n) c h = absurd h
-rest-written p b (writing n) c h = h
+rest-written p b m c h = search rules

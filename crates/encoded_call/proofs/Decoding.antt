@@ -1,9 +1,7 @@
 -- The numbers of a call's words: the width that they are, and the integers of a width, over the width.
-use mathlib.Core.Bool.{true, false}
 use mathlib.Core.Path.{◌≡◌, refl}
-use Prim.Native.Nat.{ℕ, zero, suc, ◌+◌, ◌*◌, ◌-◌, ◌/◌, ◌^◌, ◌≤◌, ◌<◌}
+use Prim.Native.Nat.{ℕ, suc, ◌+◌, ◌*◌, ◌-◌, ◌/◌, ◌^◌, ◌≤◌, ◌<◌}
 use native.Mathlib.Omega.{arith}
-use lib.Dec.{ltb}
 use mir.Syntax.{w64}
 use mir.Val.{to_z}
 use mir.Facts.{to_z_pos, to_z-neg}
@@ -11,21 +9,7 @@ use borrow.Author.Tests.{lt-ltb, le-ltb}
 use Rattle.value_writes.specs.declared.Width.{Width}
 use Rattle.value_writes.specs.declared.Width.TheVariants.{W8, W16, W32, W64}
 use Rattle.value_writes.specs.Values.{bits_of}
-use Rattle.encoded_call.specs.Encoding.{width_at, signed_at}
-
--- past the numbers before the last, the last
-pub last_width : (n : ℕ) → (n ≡ 0 → ⊥) → (n ≡ 1 → ⊥) → (n ≡ 2 → ⊥) → W64 ≡ width_at n
-last_width zero p q r = absurd (p refl)
-last_width (suc zero) p q r = absurd (q refl)
-last_width (suc (suc zero)) p q r = absurd (r refl)
-last_width (suc (suc (suc n))) p q r = refl
-
--- whether a number has no more bits than a width, whose greatest number is g
-pub within : {w : Width} {g a : ℕ} (b : ℕ) → w ≡ width_at b → g + 1 ≡ 2 ^ bits_of w → a ≤ g → ltb a (2 ^ bits_of (width_at b)) ≡ true
-within {w} {g} {a} b p e h = rw (← p) (lt-ltb a (2 ^ bits_of w) (omega arith))
-
-pub beyond : {w : Width} {g a : ℕ} (b : ℕ) → w ≡ width_at b → g + 1 ≡ 2 ^ bits_of w → g < a → ltb a (2 ^ bits_of (width_at b)) ≡ false
-beyond {w} {g} {a} b p e h = rw (← p) (le-ltb a (2 ^ bits_of w) (omega arith))
+use Rattle.encoded_call.specs.Encoding.{signed_at}
 
 pub half : (w : Width) → 2 ^ bits_of w ≡ 2 * 2 ^ (bits_of w - 1)
 half W8 = refl

@@ -1,4 +1,5 @@
 -- What is read and what is printed are the same texts, of numbers and of bytes.
+use borrow.Author.Rules.{rules}
 use mathlib.Core.Bool.{Bool, true, false, cond, ◌&&◌, false≢true, and-eq-true_iff}
 use mathlib.Core.Logic.{dite}
 use mathlib.Core.Path.{◌≡◌, refl, sym, ap, ◌∙◌}
@@ -7,8 +8,8 @@ use Prim.Native.Nat.{ℕ, ◌+◌, ◌-◌, ◌*◌, ◌/◌, ◌%◌, ◌≤◌
 use native.Mathlib.Nat.{mod-lt, div-add-mod'}
 use native.Mathlib.Decide.{dec_lt, ℕ_discrete}
 use native.Mathlib.Omega.{arith}
-use borrow.Author.Tests.{leb-true, ltb-true, le-leb, lt-leb, lt-ltb, le-ltb}
-use lib.Dec.{leb, ltb, lit≤}
+use borrow.Author.Tests.{ltb-true, le-leb}
+use lib.Dec.{ltb, lit≤}
 use lib.ListN.{length, get_or, get_or-append}
 use lib.Seq.{append_snoc}
 use Rattle.formatting.specs.declared.flags.HexFormatting.TheVariants.{Upper}
@@ -18,11 +19,10 @@ use Rattle.std.proofs.lemmas.Option.{none-some, same_Some}
 use Rattle.pwrapper.specs.Digits.{dec_digit}
 use Rattle.pwrapper.specs.Number.{decimal}
 use Rattle.pwrapper.proofs.Digits.{by_digits, text-low, text-step, text_pos, text-one}
-use Rattle.fields.specs.Decimal.{is_digit, read_from, is_shortest, decimal_of}
+use Rattle.fields.specs.Decimal.{read_from, is_shortest, decimal_of}
 use Rattle.fields.specs.Hex.{is_hex_digit, hex_value, is_hex, hex_bytes, hex_pairs}
 use Rattle.fields.specs.RoundTrip.{all_bytes, NumberRoundTrip, HexRoundTrip}
 use Rattle.fields.proofs.Numbers.{number-zero, number_digits}
-use Rattle.fields.proofs.Pairs.{hex_range, value-digit, value-letter}
 
 decimal-low : (n : ℕ) → n < 10 → decimal n ≡ (48 + n) ∷ []
 decimal-low = text-low 10 (lit≤ tt) dec_digit
@@ -40,11 +40,7 @@ decimal-more n d h k =
 -- a byte that is read is a digit
 digit : (a b : ℕ) (s : List ℕ) (n : ℕ) → read_from a (b ∷ s) ≡ Some n → (48 ≤ b) × (b ≤ 57) × (read_from (a * 10 + (b - 48)) s ≡ Some n)
 unfolding read_from
-digit a b s n e = by_test (is_digit b) refl e
-  where
-    by_test : (t : Bool) → is_digit b ≡ t → cond t (read_from (a * 10 + (b - 48)) s) None ≡ Some n → (48 ≤ b) × (b ≤ 57) × (read_from (a * 10 + (b - 48)) s ≡ Some n)
-    by_test true d e = let p = (and-eq-true_iff (leb 48 b) (leb b 57)).0 d in (leb-true 48 b p.0, leb-true b 57 p.1, e)
-    by_test false d e = absurd (none-some n e)
+digit a b s n e = search rules
 
 -- the digits of a number above 0, and then what is read on
 grows : (s : List ℕ) (a n : ℕ) → 0 < a → read_from a s ≡ Some n → decimal a ++ s ≡ decimal n
@@ -110,23 +106,11 @@ number_round_trip s n = (
 
 -- a digit's value is below 16, and the digit is that of its value
 digit_value : (b : ℕ) → is_hex_digit b ≡ true → (hex_value b < 16) × (hex_digit Upper (hex_value b) ≡ b)
-digit_value b e =
-    let r = hex_range b e in
-    dite (dec_lt 57 b)
-    (λ h.
-    let k = r.2 h in
-    let v : hex_value b ≡ b - 65 + 10 = sym (value-letter b h k) in
-    rw v (omega arith, rw (le-ltb (b - 65 + 10) 10 (omega arith)) (omega arith)))
-    (λ h.
-    let v : hex_value b ≡ b - 48 = sym (value-digit b (omega arith)) in
-    rw v (omega arith, rw (lt-ltb (b - 48) 10 (omega arith)) (omega arith)))
+digit_value b e = search rules
 
 -- the digit of a number below 16 is one, and has it as its value
 digit_of : (d : ℕ) → d < 16 → (is_hex_digit (hex_digit Upper d) ≡ true) × (hex_value (hex_digit Upper d) ≡ d)
-digit_of d h =
-    dite (dec_lt d 10)
-    (λ l. simp (lt-ltb d 10 l, le-leb 48 (48 + d) (omega arith), le-leb (48 + d) 57 (omega arith)) (refl, omega arith))
-    (λ l. simp (le-ltb d 10 (omega arith), le-leb 48 (55 + d) (omega arith), lt-leb (55 + d) 57 (omega arith), le-leb 65 (55 + d) (omega arith), le-leb (55 + d) 70 (omega arith)) (refl, omega arith))
+digit_of d h = search rules
 
 -- the bytes of pairs, printed, are the pairs
 pairs_of_bytes : (s : List ℕ) → is_hex s ≡ true → hex_pairs (hex_bytes s) ≡ s

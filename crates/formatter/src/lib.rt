@@ -1,12 +1,16 @@
-// The formatter's calls (fmt/formatter.rs) on its small part, with its stack of open entries and the
-// buffer lent beside it. A builder is an entry of the stack.
+// The formatter, its four builders and its sub-formatters (fmt/formatter.rs). A builder is an entry of
+// its stack, and the buffer is lent beside it.
 #![tactic(auto)]
 
+mod builders;
 mod dispatch;
 mod entries;
 mod faults;
+mod formatter;
 mod head;
-mod stack;
+mod writes;
 
-pub use dispatch::{Op, call, judge, no_call};
-pub use head::{Head, HeadStep};
+pub use dispatch::Op;
+pub use entries::{Entry, Outer};
+pub use formatter::Formatter;
+pub use head::Head;

@@ -1,33 +1,27 @@
 -- A program that answers lines: those that it answered, and those that are still to be taken, are the lines of what it has read.
+use Rattle.std.proofs.lemmas.Grind.{common_steps}
+use borrow.Author.Rules.{rules}
+use native.Mathlib.Omega.{arith}
 use Rattle.std.specs.Prelude.{Option}
-use Rattle.std.proofs.Common.{◌≡◌, refl, sym, ◌∙◌, ap, false, true, ℕ, List, [], ◌∷◌, ◌++◌, None, Some}
+use Rattle.std.proofs.Common.{◌≡◌, refl, sym, ◌∙◌, ap, false, true, ℕ, List, [], ◌∷◌, ◌++◌}
 use Rattle.std.specs.Io.KnownBytes.{Consumes, Appends}
 use mathlib.Core.List.{append_assoc, append-nil}
 use Rattle.lines.specs.declared.Reader.{Reader}
 use Rattle.lines.specs.Lines.{lines_of, clipped, max_line}
 use Rattle.lines.specs.Reading.{held_of, ahead_of, MayFollow, TakesLine, TakesNone, More}
-use Rattle.lines.proofs.Playing.{apart}
 use Rattle.line_input.specs.Answered.{Answered, none, more}
 
 pub consumes_none : (R : Option (List ℕ)) → Consumes R R []
-consumes_none None = tt
-consumes_none (Some x) = refl
+consumes_none R = search rules
 
 pub consumes-then : (A B C : Option (List ℕ)) (x y : List ℕ) → Consumes A B x → Consumes B C y → Consumes A C (x ++ y)
-consumes-then None B C x y p q = tt
-consumes-then (Some a) None C x y p q = elim p [ ]
-consumes-then (Some a) (Some b) None x y p q = elim q [ ]
-consumes-then (Some a) (Some b) (Some c) x y p q = p ∙ ap (λ z. x ++ z) q ∙ sym (append_assoc x y c)
+consumes-then A B C x y p q = grind (arith, common_steps)
 
 pub appends_none : (W : Option (List ℕ)) → Appends W W []
-appends_none None = tt
-appends_none (Some x) = sym (append-nil x)
+appends_none W = search rules
 
 pub appends-then : (A B C : Option (List ℕ)) (x y : List ℕ) → Appends A B x → Appends B C y → Appends A C (x ++ y)
-appends-then None B C x y p q = tt
-appends-then (Some a) None C x y p q = elim p [ ]
-appends-then (Some a) (Some b) None x y p q = elim q [ ]
-appends-then (Some a) (Some b) (Some c) x y p q = q ∙ ap (λ z. z ++ y) p ∙ append_assoc a x y
+appends-then A B C x y p q = grind (arith, common_steps)
 
 module _ {S : Type 0} (gives : S → List ℕ → List ℕ → S → Type 0) where
   -- one line more
@@ -73,11 +67,9 @@ module _ {S : Type 0} (gives : S → List ℕ → List ℕ → S → Type 0) whe
           appends = g.appends;
           answered = g.answered;
           right = λ rest f.
-              let n : MayFollow r.ended (m.piece ++ rest) = λ x. absurd (apart k.ended (h.ended ∙ x) e) in
+              let n : MayFollow r.ended (m.piece ++ rest) = λ x. cc (h.ended) in
               rw (append_assoc g.read m.piece rest, m.bytes, m.skips, append_assoc (held_of k b) m.piece rest) (g.right (m.piece ++ rest) n ∙ ap (λ z. g.lines ++ z) (h.same (m.piece ++ rest)));
         }
 
     pub going-ends : TakesNone max_line r k b → k.ended ≡ true → (read : List ℕ) × (printed : List ℕ) × Consumes R₀ R read × Answered gives s₀ (clipped max_line (lines_of read)) printed s × Appends W₀ W printed
-    going-ends h e =
-        let d : clipped max_line (lines_of g.read) ≡ g.lines = ap (λ z. clipped max_line (lines_of z)) (sym (append-nil g.read)) ∙ g.right [] (λ x. refl) ∙ rw (h.none (sym h.ended ∙ e)) (append-nil g.lines) in
-        (g.read, g.printed, g.consumes, rw d g.answered, g.appends)
+    going-ends h e = search rules

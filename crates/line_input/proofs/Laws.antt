@@ -1,6 +1,7 @@
 -- What is read behind the bytes that are held.
+use borrow.Author.Rules.{rules}
 use Rattle.std.specs.Prelude.{Option, Result}
-use Rattle.std.proofs.Common.{◌≡◌, refl, sym, ◌∙◌, ap, true, false, ℕ, ◌+◌, ◌-◌, ◌≤◌, ◌<◌, nat_eq, List, [], ◌++◌, length, take, drop, None, Some, Ok, Err, arith, length-append}
+use Rattle.std.proofs.Common.{◌≡◌, refl, sym, ◌∙◌, ap, true, false, ℕ, ◌+◌, ◌-◌, ◌≤◌, ◌<◌, nat_eq, List, [], ◌++◌, length, take, drop, arith, length-append}
 use Rattle.std.specs.Result.{result_unwrap_or}
 use Rattle.std.specs.Io.KnownBytes.{Consumes, ReadConsumes}
 use borrow.Author.Tests.{eqb-true, eqb-false}
@@ -12,10 +13,7 @@ use Rattle.lines.specs.Reading.{held, held_of, moved_of, More}
 
 -- a read that failed gave nothing
 consumed : {E : Type 0} (old new : Option (List ℕ)) (r : Result ℕ E) (y : List ℕ) → ReadConsumes old new r y → Consumes old new (take (result_unwrap_or r 0) y)
-consumed old new (Ok n) y c = c.0
-consumed None new (Err e) y c = c
-consumed (Some xs) None (Err e) y c = elim c [ ]
-consumed (Some xs) (Some ys) (Err e) y c = sym c
+consumed old new r y c = search rules
 
 -- m bytes are read behind the first n
 behind : (d y : List ℕ) (n m k : ℕ) → n ≤ length d → m ≤ length y → take (n + m) (put_mid n k d y) ≡ take n d ++ take m y

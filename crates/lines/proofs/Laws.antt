@@ -1,17 +1,17 @@
 -- Laws of the lines of an input, and of the bytes that are held of it.
+use Rattle.std.proofs.lemmas.List.{nil_from_length}
+use Rattle.std.proofs.lemmas.Grind.{common_steps}
 use mathlib.Core.Bool.{Bool, true, false, cond}
 use mathlib.Core.Path.{◌≡◌, refl, ap, sym, ◌∙◌}
 use mathlib.Core.List.{List, [], ◌∷◌, ◌++◌, append-nil}
-use Prim.Native.Nat.{ℕ, zero, suc, ◌+◌, ◌-◌, ◌≤◌, ◌<◌, min}
+use Prim.Native.Nat.{ℕ, zero, suc, ◌+◌, ◌-◌, ◌≤◌, ◌<◌}
 use native.Mathlib.Numerals.{add-one}
 use native.Mathlib.Omega.{arith}
 use borrow.Author.Rules.{rules}
-use borrow.Author.Tests.{ltb-true, ltb-false}
 use lib.Dec.{eqb}
-use lib.ListN.{length, take, drop, length-append, length-drop, length-take, drop_of_length-le}
-use lib.Seq.{take-append-le, drop-append-le, drop-append_seam, take_all, length-take-le, take-nil, take-take, drop-drop}
-use Rattle.std.specs.Prelude.{Some, None, ◌==◌, nat_lt}
-use Rattle.std.proofs.lemmas.Option.{none-some}
+use lib.ListN.{length, take, drop, length-append, length-drop, drop_of_length-le}
+use lib.Seq.{take-append-le, drop-append-le, drop-append_seam, take_all, length-take-le, take-take, drop-drop}
+use Rattle.std.specs.Prelude.{Some, None, ◌==◌}
 use Rattle.std.specs.List.{position_or_len}
 use Rattle.std.proofs.lemmas.List.Recursion.{is_position_or_len}
 use Rattle.std.proofs.lemmas.List.Sums.{prefix_len-le-length}
@@ -19,7 +19,6 @@ use Rattle.fields.specs.Fields.{longer}
 use Rattle.lines.specs.declared.Reader.{Reader}
 use Rattle.lines.specs.Lines.{lines_of, clipped, later_lines}
 use Rattle.lines.specs.Reading.{held, held_of, ahead, ahead_of, last_of, line_feed, Unended, TakesLine, TakesNone, Skips}
-use Rattle.lines.proofs.Playing.{apart}
 
 -- the place of the first line feed, or the length
 feed : List ℕ → ℕ
@@ -37,11 +36,7 @@ feed_le s = rw feed-position (prefix_len-le-length _ s)
 lines-first : (s : List ℕ) → 0 < length s → lines_of s ≡ take (feed s) s ∷ lines_of (drop (feed s + 1) s)
 unfolding feed lines_of
 lines-first [] h = absurd (omega arith)
-lines-first (a ∷ []) h = by_test (eqb a 10)
-  where
-    by_test : (t : Bool) → cond t ([] ∷ []) (longer a []) ≡ take (cond t 0 1) (a ∷ []) ∷ lines_of (drop (cond t 0 1 + 1) (a ∷ []))
-    by_test true = refl
-    by_test false = refl
+lines-first (a ∷ []) h = grind (arith, common_steps)
 lines-first (a ∷ b ∷ s) h = by_test (eqb a 10) (lines-first (b ∷ s) (omega arith))
   where
     by_test : (t : Bool) → lines_of (b ∷ s) ≡ take (feed (b ∷ s)) (b ∷ s) ∷ lines_of (drop (feed (b ∷ s) + 1) (b ∷ s))
@@ -53,36 +48,22 @@ lines-first (a ∷ b ∷ s) h = by_test (eqb a 10) (lines-first (b ∷ s) (omega
 feed_kept : (s t : List ℕ) → feed s < length s → feed (s ++ t) ≡ feed s
 unfolding feed
 feed_kept [] t h = absurd (omega arith)
-feed_kept (a ∷ s) t h = by_test (eqb a 10) (feed_kept s t) h
-  where
-    by_test : (x : Bool) → (feed s < length s → feed (s ++ t) ≡ feed s) → cond x 0 (suc (feed s)) < suc (length s) → cond x 0 (suc (feed (s ++ t))) ≡ cond x 0 (suc (feed s))
-    by_test true f h = refl
-    by_test false f h = rw (f (omega arith))
+feed_kept (a ∷ s) t h = grind (arith, common_steps, feed_kept s t)
 
 feed_grows : (s t : List ℕ) → feed s ≤ feed (s ++ t)
 unfolding feed
 feed_grows [] t = omega arith
-feed_grows (a ∷ s) t = by_test (eqb a 10) (feed_grows s t)
-  where
-    by_test : (x : Bool) → feed s ≤ feed (s ++ t) → cond x 0 (suc (feed s)) ≤ cond x 0 (suc (feed (s ++ t)))
-    by_test true h = omega arith
-    by_test false h = omega arith
+feed_grows (a ∷ s) t = grind (arith, common_steps, feed_grows s t)
 
 -- the lines behind the first stay, whatever of the first is taken away
 later-longer : (a : ℕ) (ls : List (List ℕ)) → later_lines (longer a ls) ≡ later_lines ls
-later-longer a [] = refl
-later-longer a (l ∷ ls) = refl
+later-longer a ls = search rules
 
 later-drop : (k : ℕ) (s : List ℕ) → k ≤ feed s → later_lines (lines_of (drop k s)) ≡ later_lines (lines_of s)
 unfolding feed lines_of
 later-drop zero s h = refl
 later-drop (suc k) [] h = refl
-later-drop (suc k) (a ∷ s) h = by_test (eqb a 10) (later-drop k s) h
-  where
-    by_test : (t : Bool) → (k ≤ feed s → later_lines (lines_of (drop k s)) ≡ later_lines (lines_of s)) → suc k ≤ cond t 0 (suc (feed s))
-        → later_lines (lines_of (drop k s)) ≡ later_lines (cond t ([] ∷ lines_of s) (longer a (lines_of s)))
-    by_test true f h = absurd (omega arith)
-    by_test false f h = f (omega arith) ∙ sym (later-longer a (lines_of s))
+later-drop (suc k) (a ∷ s) h = grind (arith, common_steps, later-drop k s, later-longer a (lines_of s))
 
 last_line : (s : List ℕ) → feed s ≡ length s → lines_of s ≡ last_of s
 unfolding lines_of
@@ -92,8 +73,7 @@ last_line (a ∷ s) e =
     lines-first (a ∷ s) (omega arith) ∙ rw (e, take_all (length (a ∷ s)) (a ∷ s) (omega arith), d)
 
 last_some : (s : List ℕ) → 0 < length s → last_of s ≡ s ∷ []
-last_some [] h = absurd (omega arith)
-last_some (a ∷ s) h = refl
+last_some s h = search rules
 
 -- what the place n of the first line feed of s says of the lines of s and what follows it
 module _ (s : List ℕ) (n : ℕ) (e : n ≡ feed s) where
@@ -127,31 +107,16 @@ module _ (s : List ℕ) (n : ℕ) (e : n ≡ feed s) where
 
 -- the bytes from..to of a buffer
 held_none : (b : List ℕ) (to : ℕ) → held to to b ≡ []
-held_none b to = let z : to - to ≡ 0 = omega arith in rw z
+held_none b to = search rules
 
 drop-take : (k m : ℕ) (l : List ℕ) → drop k (take m l) ≡ take (m - k) (drop k l)
-drop-take zero m l = let z : m - 0 ≡ m = omega arith in rw z
-drop-take (suc k) zero l = let z : 0 - suc k ≡ 0 = omega arith in rw z
-drop-take (suc k) (suc m) [] = sym (take-nil (suc m - suc k))
-drop-take (suc k) (suc m) (x ∷ l) = let z : suc m - suc k ≡ m - k = omega arith in rw z (drop-take k m l)
+drop-take zero m l = grind (arith, common_steps)
+drop-take (suc k) zero l = grind (arith, common_steps)
+drop-take (suc k) (suc m) [] = grind (arith, common_steps)
+drop-take (suc k) (suc m) (x ∷ l) = grind (arith, common_steps, drop-take k m l)
 
-pub length-held : (b : List ℕ) (from to : ℕ) → length (held from to b) ≡ min (to - from) (length b - from)
-length-held b from to = rw (length-take, length-drop)
-
--- their first k bytes, and those behind these
-module _ (b : List ℕ) (from to k : ℕ) (s : List ℕ) (e : s ≡ held from to b) (h : k ≤ length s) where
-  length_part : length s ≡ min (to - from) (length b - from)
-  length_part = rw e (length-held b from to)
-
-  pub held-inside : 0 < k → from + k ≤ length b
-  held-inside p = let l = length_part in omega arith
-
-  first-held : take k s ≡ held from (from + k) b
-  first-held =
-      let l = length_part in
-      let z : from + k - from ≡ k = omega arith in
-      rw (e, z) (take-take k (to - from) (drop from b) (omega arith))
-
+-- those behind the first k
+module _ (b : List ℕ) (from to k : ℕ) (s : List ℕ) (e : s ≡ held from to b) where
   rest-held : drop k s ≡ held (from + k) to b
   rest-held =
       let y : to - from - k ≡ to - (from + k) = omega arith in
@@ -159,33 +124,22 @@ module _ (b : List ℕ) (from to k : ℕ) (s : List ℕ) (e : s ≡ held from to
 
 -- the place of the first line feed, as the code finds it
 feed-some : (s : List ℕ) (n : ℕ) → line_feed s ≡ Some n → (n ≡ feed s) × (n < length s)
-feed-some s n e = by_test (nat_lt (position_or_len (λ b. b == 10) s) (length s)) refl e
-  where
-    by_test : (t : Bool) → nat_lt (position_or_len (λ b. b == 10) s) (length s) ≡ t → cond t (Some (position_or_len (λ b. b == 10) s)) None ≡ Some n → (n ≡ feed s) × (n < length s)
-    by_test true q e = let f = feed-position s in let m : n ≡ feed s = cc in let l = ltb-true _ _ q in (m, omega arith)
-    by_test false q e = absurd (none-some _ e)
+feed-some s n e = grind (arith, common_steps, feed-position s)
 
 feed-none : (s : List ℕ) → line_feed s ≡ None → length s ≤ feed s
-feed-none s e = by_test (nat_lt (position_or_len (λ b. b == 10) s) (length s)) refl e
-  where
-    by_test : (t : Bool) → nat_lt (position_or_len (λ b. b == 10) s) (length s) ≡ t → cond t (Some (position_or_len (λ b. b == 10) s)) None ≡ None → length s ≤ feed s
-    by_test true q e = absurd (none-some _ (sym e))
-    by_test false q e = let f = feed-position s in let l = ltb-false _ _ q in omega arith
+feed-none s e = grind (arith, common_steps, feed-position s)
 
 -- the rest of a line that was too long is left out
-pub skips-none : (r : Reader) (b : List ℕ) → r.skips ≡ false → Skips r r b
-skips-none r b e = record { same = λ limit rest. refl; fewer = omega arith; ended = refl; empty = λ q. absurd (apart r.skips q e) }
-
 module _ (r : Reader) (b s : List ℕ) (k : r.skips ≡ true) (p : s ≡ held_of r b) where
   pub skips-whole : (n : ℕ) → line_feed s ≡ Some n → Skips r (record r { from = r.from + n + 1; skips = false }) b
   skips-whole n e =
       let f = feed-some s n e in
       let z : r.from + (n + 1) ≡ r.from + n + 1 = omega arith in
-      let q : drop (n + 1) s ≡ held (r.from + n + 1) r.to b = rw (← z) (rest-held b r.from r.to (n + 1) s p (omega arith)) in
+      let q : drop (n + 1) s ≡ held (r.from + n + 1) r.to b = rw (← z) (rest-held b r.from r.to (n + 1) s p) in
       let same : (limit : ℕ) (rest : List ℕ) → ahead_of limit r b rest ≡ ahead limit false (held (r.from + n + 1) r.to b ++ rest) = λ limit rest. rw (k, ← p, ← q) (ap (λ (x : List (List ℕ)). clipped limit x) (skip_whole s n f.0 f.1 rest)) in
       let l : length (drop (n + 1) s) ≡ length s - (n + 1) = length-drop (n + 1) s in
       let w : length (held (r.from + n + 1) r.to b) ≤ length (held_of r b) = rw (← q, ← p) (omega arith) in
-      record { same = same; fewer = w; ended = refl; empty = λ x. absurd (apart false x refl) }
+      record { same = same; fewer = w; ended = refl; empty = λ x. cc }
 
   pub skips-part : line_feed s ≡ None → Skips r (record r { from = r.to }) b
   skips-part e =
@@ -195,16 +149,11 @@ module _ (r : Reader) (b s : List ℕ) (k : r.skips ≡ true) (p : s ≡ held_of
 
 nothing-ahead : (limit : ℕ) (k : Bool) → ahead limit k [] ≡ []
 unfolding lines_of
-nothing-ahead limit true = refl
-nothing-ahead limit false = refl
+nothing-ahead limit k = search rules
 
 nothing-unended : (limit : ℕ) → Unended limit []
 unfolding lines_of
-nothing-unended limit = record { short = omega arith; last = refl }
-
-no_bytes : (s : List ℕ) → length s ≤ 0 → s ≡ []
-no_bytes [] h = refl
-no_bytes (x ∷ s) h = absurd (omega arith)
+nothing-unended limit = search rules
 
 -- what is taken of what the reader k holds, which left out the rest of a line that was too long
 module _ (limit : ℕ) (r k : Reader) (b : List ℕ) (S : Skips r k b) where
@@ -219,7 +168,7 @@ module _ (limit : ℕ) (r k : Reader) (b : List ℕ) (S : Skips r k b) where
     takes_long h =
         let i = feed_le s in
         let v = S.fewer in
-        let q = rest-held b k.from k.to (limit + 1) s p (omega arith) in
+        let q = rest-held b k.from k.to (limit + 1) s p in
         let l : length (drop (limit + 1) s) ≡ length s - (limit + 1) = length-drop (limit + 1) s in
         let w : length (held (k.from + (limit + 1)) k.to b) < length (held_of k b) = rw (← q, ← p) (omega arith) in
         record { line = λ rest y. S.same limit rest ∙ rw (f, ← p, ← q) (first_long s (feed s) refl limit h rest); fewer = omega arith; ended = S.ended }
@@ -235,7 +184,7 @@ module _ (limit : ℕ) (r k : Reader) (b : List ℕ) (S : Skips r k b) where
     takes_whole n e g =
         let i = feed-some s n e in
         let v = S.fewer in
-        let q : drop (n + 1) s ≡ held (k.from + (n + 1)) k.to b = rest-held b k.from k.to (n + 1) s p (omega arith) in
+        let q : drop (n + 1) s ≡ held (k.from + (n + 1)) k.to b = rest-held b k.from k.to (n + 1) s p in
         let l : length (drop (n + 1) s) ≡ length s - (n + 1) = length-drop (n + 1) s in
         let w : length (held (k.from + (n + 1)) k.to b) < length (held_of k b) = rw (← q, ← p) (omega arith) in
         let m : length (take n s) ≡ n = length-take-le n s (omega arith) in
@@ -249,17 +198,13 @@ module _ (limit : ℕ) (r k : Reader) (b : List ℕ) (S : Skips r k b) where
 
       pub takes_part : (0 < length s → k.ended ≡ false) → TakesNone limit r k b
       takes_part y =
-          let none : k.ended ≡ true → s ≡ [] = λ x. no_bytes s (by_length (length s) refl x) in
+          let none : k.ended ≡ true → s ≡ [] = λ x. nil_from_length s (grind arith) in
           record {
             same = S.same limit;
             waits = rw (← p) held_unended;
             none = λ x. let z = S.ended in S.same limit [] ∙ rw (← p, none (z ∙ x)) (nothing-ahead limit k.skips);
             ended = S.ended;
           }
-        where
-          by_length : (n : ℕ) → length s ≡ n → k.ended ≡ true → n ≤ 0
-          by_length zero q x = omega arith
-          by_length (suc n) q x = absurd (apart k.ended x (y (omega arith)))
 
       pub takes-end : 0 < length s → k.ended ≡ true → TakesLine limit r (record k { from = k.to }) s b
       takes-end z y =

@@ -1,32 +1,29 @@
 -- Whatever the pieces, what is written is what is to be printed, or a beginning of it: the theorems `PlaysRight` and `BreaksOffRight` for every program.
-use mathlib.Core.Bool.{Bool, true, false}
-use mathlib.Core.Path.{◌≡◌, refl, ap, sym, ◌∙◌}
-use mathlib.Core.List.{List, [], ◌∷◌, ◌++◌, append_assoc, append-nil}
-use Prim.Native.Nat.{ℕ}
+use Rattle.std.proofs.lemmas.Grind.{common_steps}
 use native.Mathlib.Omega.{arith}
+use mathlib.Core.Bool.{true, false}
+use mathlib.Core.Path.{◌≡◌, refl, ap, sym, ◌∙◌}
+use mathlib.Core.List.{List, [], ◌∷◌, ◌++◌, append-nil}
+use Prim.Native.Nat.{ℕ}
 use Rattle.lines.specs.declared.Reader.{Reader}
 use Rattle.lines.specs.Lines.{lines_of, clipped}
 use Rattle.lines.specs.Reading.{ahead, ahead_of, MayFollow, TakesLine, TakesNone}
 use Rattle.lines.specs.Played.{At, standing, remains, Over, answers, ends, awaits, Steps, joined, Plays, rests, steps, reads, writes, PlaysRight, BreaksOffRight, MorePlays}
-
-pub apart : (t : Bool) → t ≡ true → t ≡ false → ⊥
-apart t p q = let z : ◌≡◌ {A = ℕ} 0 1 = cc in omega arith
 
 module _ {S : Type 0} (left : S → List (List ℕ) → List ℕ) (limit : ℕ) where
   -- an input that has ended gives no more pieces
   no_more : {a b : At S} {ins outs : List (List ℕ)} → Plays left limit a ins outs b → a.ended ≡ true → (b.ended ≡ true) × (joined ins ≡ [])
   no_more rests e = (e, refl)
   no_more (steps w t q) e = no_more q (t.ended ∙ e)
-  no_more (reads piece end z q) e = absurd (apart false e refl)
+  no_more (reads piece end z q) e = cc
   no_more (writes q) e = no_more q e
 
   -- from anywhere on, what is written and what then remains is what remained
   all : {a b : At S} {ins outs : List (List ℕ)} → Plays left limit a ins outs b → (rest : List ℕ) → MayFollow b.ended rest → joined outs ++ remains left limit b rest ≡ remains left limit a (joined ins ++ rest)
   all rests rest m = refl
   all {a} {b} {ins} (steps w t q) rest m = all q rest m ∙ t.prints (joined ins ++ rest) (λ y. let d = no_more q (t.ended ∙ y) in rw (d.1, m d.0))
-  all (reads {s} {h} {k} {p} {c} {ins} piece end z q) rest m =
-      all q rest m ∙ ap (λ (x : List ℕ). p ++ left s (ahead limit k x)) (append_assoc h piece (joined ins ++ rest) ∙ ap (λ (x : List ℕ). h ++ x) (sym (append_assoc piece (joined ins) rest)))
-  all (writes {s} {h} {k} {p} {e} {c} {ins} {outs} q) rest m = append_assoc p (joined outs) (remains left limit c rest) ∙ ap (λ (x : List ℕ). p ++ x) (all q rest m)
+  all (reads {s} {h} {k} {p} {c} {ins} piece end z q) rest m = grind (arith, common_steps, all q rest m)
+  all (writes {s} {h} {k} {p} {e} {c} {ins} {outs} q) rest m = grind (arith, common_steps, all q rest m)
 
   pub breaks_off_right : (s : S) → BreaksOffRight left limit s
   breaks_off_right s ins outs b p rest m = all p rest m

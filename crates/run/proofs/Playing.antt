@@ -1,5 +1,4 @@
 -- Five words are one call; a call played before the rest of a run.
-use mathlib.Core.Option.{Option, none, some}
 use mathlib.Core.Path.{◌≡◌, refl, sym, ap, ◌∙◌}
 use mathlib.Core.List.{List, [], ◌∷◌}
 use Prim.Native.Nat.{ℕ, zero, suc, ◌+◌, ◌≤◌, ◌<◌}
@@ -14,8 +13,13 @@ use Rattle.calls.specs.Model.{Mode, State, Out, Run, start, beyond}
 use Rattle.agreement.specs.Agreement.{first_refusal}
 use Rattle.formatter.specs.Calls.{step_or}
 use Rattle.encoded_call.specs.Encoding.{call_at, decode}
-use Rattle.run.specs.Played.{run_or, refused_at, Played, played, stored}
-use Rattle.run.specs.Noting.{noted, place_or}
+use Rattle.std.specs.Prelude.{Option, Some, None, Ok, Err}
+use Rattle.error.specs.declared.Error.{Error}
+use Rattle.error.specs.declared.Error.TheVariants.{NotEnoughSpace, NotAscii, NotOnCharBoundary, NotUtf8, NotAChar, CountTooLarge, TooDeep, WrongCall, BadCursor}
+use Rattle.error.specs.Answer.{Answer, number_of, answer_number}
+use Rattle.run.specs.declared.Refusal.{Refusal}
+use Rattle.run.specs.Played.{run_or, refused_at, first_number, place_in, Played, played, stored}
+use Rattle.run.specs.Noting.{noted}
 
 -- five words and more: the call that they are, and the rest
 pub decode-next : (l t : List ℕ) (i : ℕ) → i + 5 ≤ length l
@@ -37,41 +41,24 @@ decode-end (o ∷ i ∷ n ∷ []) t h = refl
 decode-end (o ∷ i ∷ n ∷ a ∷ []) t h = refl
 decode-end (o ∷ i ∷ n ∷ a ∷ b ∷ l) t h = absurd (omega arith)
 
--- what is left of a run that has met a, of which place p was refused first, k calls are played and the places l hold their answers
+-- what is left of a run that was refused with f first, of which k calls are played and the places l hold their answers
 pub record Rest : Type 0 where
   pub first : ℕ
   pub place : ℕ
   pub state : State
   pub answers : List ℕ
 
-abbrev place_from : ℕ → ℕ → ℕ → List ℕ → ℕ
-place_from zero p k r = k + refused_at r
-place_from (suc a) p k r = p
+abbrev place_from : Option Refusal → ℕ → List ℕ → ℕ
+place_from None k r = k + refused_at r
+place_from (Some f) k r = f.place
 
 abbrev stored_from : ℕ → List ℕ → List ℕ → List ℕ
 stored_from zero l r = stored l r
 stored_from (suc k) [] r = []
 stored_from (suc k) (x ∷ l) r = x ∷ stored_from k l r
 
-abbrev pub rest : ℕ → ℕ → ℕ → List ℕ → Run → Rest
-rest a p k l r = record { first = hold a (first_refusal r.answers); place = place_from a p k r.answers; state = r.state; answers = stored_from k l r.answers }
-
-hold-hold : (a x y : ℕ) → hold (hold a x) y ≡ hold a (hold x y)
-hold-hold zero x y = refl
-hold-hold (suc a) x y = refl
-
-hold-done : (a : ℕ) → hold a 0 ≡ a
-hold-done zero = refl
-hold-done (suc a) = refl
-
-place-next : (a x k p : ℕ) (r : List ℕ) → place_from (hold a x) (noted a x k p) (suc k) r ≡ place_from a p k (x ∷ r)
-place-next zero zero k p r = simp (suc-add, add-suc)
-place-next zero (suc x) k p r = simp add-zero
-place-next (suc a) x k p r = refl
-
-place_end : (a k p : ℕ) → place_from a p k [] ≡ place_or a k p
-place_end zero k p = add-zero k
-place_end (suc a) k p = refl
+abbrev pub rest : Option Refusal → ℕ → List ℕ → Run → Rest
+rest f k l r = record { first = hold (first_number f) (first_refusal r.answers); place = place_from f k r.answers; state = r.state; answers = stored_from k l r.answers }
 
 stored_next : (k : ℕ) (l : List ℕ) (x : ℕ) (r : List ℕ) → stored_from (suc k) (set l k x) r ≡ stored_from k l (x ∷ r)
 stored_next zero [] x r = refl
@@ -88,53 +75,87 @@ stored-end zero l = stored-none l
 stored-end (suc k) [] = refl
 stored-end (suc k) (x ∷ l) = ap (λ (t : List ℕ). x ∷ t) (stored-end k l)
 
--- an answer noted, and the place at the end
-pub note_none : (a x k p : ℕ) → x ≡ 0 → (a ≡ hold a x) × (p ≡ noted a x k p)
-note_none zero x k p e = rw e (refl, refl)
-note_none (suc a) x k p e = (refl, refl)
+-- an error has a number above 0
+met : (e : Error) (A : ℕ → Type 0) → ((n : ℕ) → A (suc n)) → A (number_of e)
+met NotEnoughSpace A a = a 0
+met NotAscii A a = a 1
+met NotOnCharBoundary A a = a 2
+met NotUtf8 A a = a 3
+met NotAChar A a = a 4
+met CountTooLarge A a = a 5
+met TooDeep A a = a 6
+met WrongCall A a = a 7
+met BadCursor A a = a 8
 
-pub note_first : (a x k p : ℕ) → (x ≡ 0 → ⊥) → a ≡ 0 → (x ≡ hold a x) × (k ≡ noted a x k p)
-note_first a zero k p q e = absurd (q refl)
-note_first a (suc x) k p q e = rw e (refl, refl)
+-- an answer noted: what the run was refused with first, and its place
+first-next : (f : Option Refusal) (x : Answer) (k y : ℕ) → hold (first_number (noted f x k)) y ≡ hold (first_number f) (hold (answer_number x) y)
+first-next None (Ok u) k y = refl
+first-next None (Err e) k y = refl
+first-next (Some f) x k y = met f.error (λ (n : ℕ). hold n y ≡ hold n (hold (answer_number x) y)) (λ n. refl)
 
-pub note_later : (a x k p : ℕ) → (a ≡ 0 → ⊥) → (a ≡ hold a x) × (p ≡ noted a x k p)
-note_later zero x k p q = absurd (q refl)
-note_later (suc a) x k p q = (refl, refl)
+place-next : (f : Option Refusal) (x : Answer) (k : ℕ) (r : List ℕ) → place_from (noted f x k) (suc k) r ≡ place_from f k (answer_number x ∷ r)
+place-next None (Ok u) k r = simp (suc-add, add-suc)
+place-next None (Err e) k r = met e (λ (n : ℕ). k ≡ k + refused_at (n ∷ r)) (λ n. simp add-zero)
+place-next (Some f) x k r = refl
 
-pub place-last : (a k p : ℕ) → a ≡ 0 → k ≡ place_or a k p
-place-last a k p e = rw e refl
-
-pub place-met : (a k p : ℕ) → (a ≡ 0 → ⊥) → p ≡ place_or a k p
-place-met zero k p e = absurd (e refl)
-place-met (suc a) k p e = refl
-
-rest-next : (a p k x : ℕ) (l : List ℕ) (r : Run) → rest (hold a x) (noted a x k p) (suc k) (set l k x) r ≡ rest a p k l (record { answers = x ∷ r.answers; state = r.state })
-rest-next a p k x l r = rw (hold-hold a x (first_refusal r.answers), place-next a x k p r.answers, stored_next k l x r.answers)
+rest-next : (f : Option Refusal) (x : Answer) (k : ℕ) (l : List ℕ) (r : Run)
+    → rest (noted f x k) (suc k) (set l k (answer_number x)) r ≡ rest f k l (record { answers = answer_number x ∷ r.answers; state = r.state })
+rest-next f x k l r = rw (first-next f x k (first_refusal r.answers), place-next f x k r.answers, stored_next k l (answer_number x) r.answers)
 
 -- one call, and the rest from the state that it leaves
-pub play_next : (a p k : ℕ) (l : List ℕ) (F : State) (c : Option Call) (cs : List (Option Call)) (o : Out) (a' p' : ℕ) (l' : List ℕ)
-    → o ≡ step_or F c → a' ≡ hold a o.answer → p' ≡ noted a o.answer k p → l' ≡ set l k o.answer
-    → rest a' p' (k + 1) l' (run_or o.state cs) ≡ rest a p k l (run_or F (c ∷ cs))
-play_next a p k l F c cs o a' p' l' eo ea ep el =
-    rw (ea, ep, el, add-one)
-    (rest-next a p k o.answer l (run_or o.state cs) ∙ ap (λ (u : Out). rest a p k l (record { answers = u.answer ∷ (run_or u.state cs).answers; state = (run_or u.state cs).state })) eo)
+pub play_next : (f : Option Refusal) (k : ℕ) (l : List ℕ) (F : State) (c : Option Call) (cs : List (Option Call)) (x : Answer) (G : State) (f' : Option Refusal) (l' : List ℕ)
+    → ◌≡◌ {A = Out} (record { answer = answer_number x; state = G }) (step_or F c) → f' ≡ noted f x k → l' ≡ set l k (answer_number x)
+    → rest f' (k + 1) l' (run_or G cs) ≡ rest f k l (run_or F (c ∷ cs))
+play_next f k l F c cs x G f' l' eo ef el =
+    rw (ef, el, add-one)
+    (rest-next f x k l (run_or G cs) ∙ ap (λ (u : Out). rest f k l (record { answers = u.answer ∷ (run_or u.state cs).answers; state = (run_or u.state cs).state })) eo)
 
--- where the cursor is past the bytes, each call is refused
-past_place : (F : State) (cs : List (Option Call)) (e : ℕ) → e ≡ beyond F.output.mode F.output.bytes → place_from e 0 0 (run_or F cs).answers ≡ refused_at (run_or F cs).answers
-past_place F cs zero q = zero-add _
-past_place F [] (suc e) q = refl
-past_place F (some c ∷ cs) (suc e) q = rw (← q)
-past_place F (none ∷ cs) (suc e) q = rw (← q)
+-- where the cursor is past the bytes, the first call is refused
+past_place : (F : State) (cs : List (Option Call)) (n : ℕ) → suc n ≡ beyond F.output.mode F.output.bytes → refused_at (run_or F cs).answers ≡ 0
+past_place F [] n q = refl
+past_place F (Some c ∷ cs) n q = rw (← q)
+past_place F (None ∷ cs) n q = rw (← q)
 
--- nothing left: the end of the run
-module _ (m : Mode) (b : List ℕ) (S : Settings) (ds : List (Option Call)) (l : List ℕ) (G : State) (e : ℕ) (q : G ≡ start m b S) (eq : e ≡ beyond m b) where
-  pub play_end : (a p k : ℕ) (t : List ℕ) (F : State) (n o : ℕ) → n ≡ place_or a k p → o ≡ length F.stack
-      → rest a p k t (record { answers = []; state = F }) ≡ rest e 0 0 l (run_or G ds)
-      → (◌≡◌ {A = Played} (record { first = a; place = n; entries = o; output = F.output }) (played m b S ds)) × (t ≡ stored l (run_or (start m b S) ds).answers)
-  play_end a p k t F n o en eo i =
-      let j : rest a p k t (record { answers = []; state = F }) ≡ rest (beyond m b) 0 0 l (run_or (start m b S) ds) = rw (← q, ← eq) i in
-      let R = run_or (start m b S) ds in
-      let h : a ≡ hold (beyond m b) (first_refusal R.answers) = sym (hold-done a) ∙ ap (λ (r : Rest). r.first) j in
-      let u : n ≡ refused_at R.answers = en ∙ sym (place_end a k p) ∙ ap (λ (r : Rest). r.place) j ∙ past_place (start m b S) ds (beyond m b) refl in
+-- where none is refused, the place is the number of the calls
+none_refused : (r : List ℕ) → first_refusal r ≡ 0 → refused_at r ≡ length r
+none_refused [] e = refl
+none_refused (zero ∷ r) e = ap suc (none_refused r e)
+none_refused (suc a ∷ r) e = absurd (omega arith)
+
+each-answered : (F : State) (cs : List (Option Call)) → length (run_or F cs).answers ≡ length cs
+each-answered F [] = refl
+each-answered F (c ∷ cs) = ap suc (each-answered (step_or F c).state cs)
+
+-- nothing left: the end of the run, where x is what the cursor meets
+module _ (m : Mode) (b : List ℕ) (S : Settings) (ds : List (Option Call)) (l : List ℕ) (G : State) (x : Answer) (q : G ≡ start m b S) (eq : answer_number x ≡ beyond m b) where
+  abbrev R : Run
+  R = run_or (start m b S) ds
+
+  first-place : place_from (noted None x 0) 0 R.answers ≡ refused_at R.answers
+  first-place = go x eq
+    where
+      go : (x : Answer) → answer_number x ≡ beyond m b → place_from (noted None x 0) 0 R.answers ≡ refused_at R.answers
+      go (Ok u) e = zero-add _
+      go (Err e) k = sym (met e (λ (n : ℕ). n ≡ beyond m b → refused_at R.answers ≡ 0) (λ n h. past_place (start m b S) ds n h) k)
+
+  pub play_end : (f : Option Refusal) (k : ℕ) (t : List ℕ) (F : State) (o : ℕ) → o ≡ length F.stack
+      → rest f k t (record { answers = []; state = F }) ≡ rest (noted None x 0) 0 l (run_or G ds)
+      → (◌≡◌ {A = Played} (record { first = first_number f; place = place_in ds f; entries = o; output = F.output }) (played m b S ds)) × (t ≡ stored l R.answers)
+  play_end f k t F o eo i =
+      let j : rest f k t (record { answers = []; state = F }) ≡ rest (noted None x 0) 0 l R = rw (← q) i in
+      let h : first_number f ≡ hold (beyond m b) (first_refusal R.answers) = sym (hold-done (first_number f)) ∙ ap (λ (r : Rest). r.first) j ∙ (first-next None x 0 (first_refusal R.answers) ∙ rw (← eq)) in
+      let u : place_in ds f ≡ refused_at R.answers = at f h (ap (λ (r : Rest). r.place) j ∙ first-place) in
       let v : F ≡ R.state = ap (λ (r : Rest). r.state) j in
       (rw (h, u, eo, v), sym (stored-end k t) ∙ ap (λ (r : Rest). r.answers) j)
+    where
+      hold-done : (a : ℕ) → hold a 0 ≡ a
+      hold-done zero = refl
+      hold-done (suc a) = refl
+
+      last : (a y : ℕ) → 0 ≡ hold a y → y ≡ 0
+      last zero y e = sym e
+      last (suc a) y e = absurd (omega arith)
+
+      at : (f : Option Refusal) → first_number f ≡ hold (beyond m b) (first_refusal R.answers) → place_from f k [] ≡ refused_at R.answers → place_in ds f ≡ refused_at R.answers
+      at None h p = sym (none_refused R.answers (last (beyond m b) _ h) ∙ each-answered (start m b S) ds)
+      at (Some f) h p = p

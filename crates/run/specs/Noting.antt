@@ -1,13 +1,10 @@
 -- What is noted of the first refusal while a run is played; only functions inside this crate speak of it.
-use Rattle.std.specs.Prelude.{ℕ, zero, suc}
+use Rattle.std.specs.Prelude.{ℕ, Option, Some, None, Ok, Err}
+use Rattle.error.specs.Answer.{Answer}
+use Rattle.run.specs.declared.Refusal.{Refusal}
 
--- the run has met a, at place p, and call k answers x: the place of what it has met then
-abbrev pub noted : ℕ → ℕ → ℕ → ℕ → ℕ
-noted zero zero k p = p
-noted zero (suc x) k p = k
-noted (suc a) x k p = p
-
--- the run ends at k and has met a, at place p: that place, the end where it has met nothing
-abbrev pub place_or : ℕ → ℕ → ℕ → ℕ
-place_or zero k p = k
-place_or (suc a) k p = p
+-- docs/DECISIONS.md, 'The formatter': what a run was refused with first, once call k has the answer x
+abbrev pub noted : Option Refusal → Answer → ℕ → Option Refusal
+noted None (Ok u) k = None
+noted None (Err e) k = Some (record { error = e; place = k })
+noted (Some f) x k = Some f

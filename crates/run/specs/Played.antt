@@ -1,13 +1,16 @@
 -- What a list of calls gives when it is played whole, and demand 3 of a run as data.
-use Rattle.std.proofs.Math.Option.{Option, none, some}
-use Rattle.std.specs.Prelude.{◌≡◌, ◌↔◌, List, [], ◌∷◌, ◌++◌, map, ℕ, zero, suc, ◌+◌, ◌≤◌, ◌<◌, length, take, drop}
-use Rattle.error.specs.declared.Answer.TheVariants.{Done, NotEnoughSpace}
-use Rattle.error.specs.Answer.{number_of}
+use Rattle.std.specs.Prelude.{◌≡◌, ◌↔◌, List, [], ◌∷◌, ◌++◌, map, ℕ, zero, suc, ◌+◌, ◌≤◌, ◌<◌, length, take, drop, Option, Some, None}
+use Rattle.error.specs.declared.Error.TheVariants.{NotEnoughSpace}
+use Rattle.error.specs.Answer.{done, number_of}
 use Rattle.calls.specs.declared.Settings.{Settings}
 use Rattle.calls.specs.Call.{Call, hold}
 use Rattle.calls.specs.Model.{Mode, counting, writing, Output, State, Run, start, beyond, most}
 use Rattle.agreement.specs.Agreement.{first_refusal, AllWhole, Proper, defined_text}
+use Rattle.writer_backend.specs.Output.{output_of}
+use Rattle.formatter.specs.declared.head.Head.{Head}
+use Rattle.formatter.specs.View.{depth_of}
 use Rattle.formatter.specs.Calls.{step_or}
+use Rattle.run.specs.declared.Refusal.{Refusal}
 use Rattle.run.specs.declared.Ran.{Ran}
 
 -- Document 01, 'A nested record': each call, also after a refused one, gets what the call before left; what is no call has an answer too
@@ -39,17 +42,31 @@ ended e r = record { first = hold e (first_refusal r.answers); place = refused_a
 abbrev pub played : Mode → List ℕ → Settings → List (Option Call) → Played
 played m b S ds = ended (beyond m b) (run_or (start m b S) ds)
 
+-- docs/DECISIONS.md, 'The formatter': the number of what a run was refused with first; 0 where nothing was refused
+abbrev pub first_number : Option Refusal → ℕ
+first_number None = done
+first_number (Some f) = number_of f.error
+
+-- docs/DECISIONS.md, 'The formatter': the place of the call that was refused first; as many as there are calls where none was
+abbrev pub place_in : List (Option Call) → Option Refusal → ℕ
+place_in ds None = length ds
+place_in ds (Some f) = f.place
+
+-- docs/DECISIONS.md, 'The formatter': the end of a run of the calls ds, of what it was refused with first, the head and the bytes as they then are
+abbrev pub ending : List (Option Call) → Option Refusal → Head → List ℕ → Played
+ending ds f h b = record { first = first_number f; place = place_in ds f; entries = depth_of h.depth; output = output_of h.writer b }
+
 -- docs/DECISIONS.md, 'The formatter': the end that a Ran is, with the mode and the bytes as they then are
-abbrev end_of : Ran → Mode → List ℕ → Played
-end_of r m b = record { first = r.first; place = r.place; entries = r.entries; output = record { mode = m; bytes = b } }
+abbrev end_of : List (Option Call) → Ran → Mode → List ℕ → Played
+end_of ds r m b = record { first = first_number r.first; place = place_in ds r.first; entries = r.entries; output = record { mode = m; bytes = b } }
 
 -- docs/DECISIONS.md, 'The formatter': of a counting run
-abbrev pub end_counted : Ran → Played
-end_counted r = end_of r (counting r.number) []
+abbrev pub end_counted : List (Option Call) → Ran → Played
+end_counted ds r = end_of ds r (counting r.number) []
 
 -- docs/DECISIONS.md, 'The formatter': of a writing run
-abbrev pub end_written : Ran → List ℕ → Played
-end_written r b = end_of r (writing r.number) b
+abbrev pub end_written : List (Option Call) → Ran → List ℕ → Played
+end_written ds r b = end_of ds r (writing r.number) b
 
 -- docs/DECISIONS.md, 'The formatter': the answers of a run, laid in lent places as far as there is room
 abbrev pub stored : List ℕ → List ℕ → List ℕ
@@ -60,12 +77,12 @@ stored (x ∷ l) (a ∷ r) = a ∷ stored l r
 -- demand 3, counting: a proper run answers 0 and totals exactly the length of its defined text
 abbrev pub CountAgrees : Settings → List (Option Call) → ℕ → ℕ → Type 0
 CountAgrees S ds first total =
-    (cs : List Call) → ds ≡ map some cs → Proper S cs → length (defined_text S cs) ≤ most →
-    (first ≡ number_of Done) × (total ≡ length (defined_text S cs))
+    (cs : List Call) → ds ≡ map Some cs → Proper S cs → length (defined_text S cs) ≤ most →
+    (first ≡ done) × (total ≡ length (defined_text S cs))
 
 -- demand 3, writing t from p into b: it answers 0 exactly when t fits, and then leaves exactly t and the cursor past it; else the first refusal is 1; no byte before p changes, and there are as many as before
 pub record WrittenAs (t b : List ℕ) (p first cursor : ℕ) (b' : List ℕ) : Type 0 where
-  pub exactly : (first ≡ number_of Done) ↔ (p + length t ≤ length b)
+  pub exactly : (first ≡ done) ↔ (p + length t ≤ length b)
   pub leaves : p + length t ≤ length b → (cursor ≡ p + length t) × (b' ≡ take p b ++ t ++ drop (p + length t) b)
   pub refused : length b < p + length t → first ≡ number_of NotEnoughSpace
   pub before : take p b' ≡ take p b
@@ -74,24 +91,24 @@ pub record WrittenAs (t b : List ℕ) (p first cursor : ℕ) (b' : List ℕ) : T
 -- demand 3, writing: so a proper run is written
 abbrev pub WriteAgrees : Settings → List (Option Call) → List ℕ → ℕ → ℕ → ℕ → List ℕ → Type 0
 WriteAgrees S ds b p first cursor b' =
-    (cs : List Call) → ds ≡ map some cs → Proper S cs → length (defined_text S cs) ≤ most → p ≤ length b →
+    (cs : List Call) → ds ≡ map Some cs → Proper S cs → length (defined_text S cs) ≤ most → p ≤ length b →
     WrittenAs (defined_text S cs) b p first cursor b'
 
 -- what a sender relies on: counting answered 0 with a total of c and left nothing open
 pub record CountedAs (e : Played) (c : ℕ) : Type 0 where
-  pub done : e.first ≡ number_of Done
+  pub done : e.first ≡ done
   pub total : e.output.mode ≡ counting c
   pub closed : e.entries ≡ 0
 
 -- what a sender relies on: the calls of a run as data
 abbrev pub calls_in : List (Option Call) → List Call
 calls_in [] = []
-calls_in (none ∷ ds) = calls_in ds
-calls_in (some c ∷ ds) = c ∷ calls_in ds
+calls_in (None ∷ ds) = calls_in ds
+calls_in (Some c ∷ ds) = c ∷ calls_in ds
 
 -- what a sender relies on: where counting ended as e, so with a total of c, the defined text has c bytes; writing from p into b answers 0 exactly if they are free and no string is cut inside a character; and then the defined text stands there, and the cursor past it
 abbrev pub WritesAsCounted : Played → Settings → List (Option Call) → List ℕ → ℕ → ℕ → ℕ → List ℕ → Type 0
 WritesAsCounted e S ds b p first cursor b' =
     (c : ℕ) → CountedAs e c →
-    (length (defined_text S (calls_in ds)) ≡ c) × ((first ≡ number_of Done) ↔ ((p + c ≤ length b) × AllWhole (calls_in ds)))
-    × (first ≡ number_of Done → (cursor ≡ p + c) × (b' ≡ take p b ++ defined_text S (calls_in ds) ++ drop (p + c) b))
+    (length (defined_text S (calls_in ds)) ≡ c) × ((first ≡ done) ↔ ((p + c ≤ length b) × AllWhole (calls_in ds)))
+    × (first ≡ done → (cursor ≡ p + c) × (b' ≡ take p b ++ defined_text S (calls_in ds) ++ drop (p + c) b))

@@ -3,94 +3,89 @@
 #![tactic(auto)]
 
 ghost use Rattle.std.specs.Prelude.{◌≡◌, [], set};
+ghost use Rattle.error.specs.Answer.{Answer, answer_number};
 ghost use Rattle.agreement.specs.Untouched.{OnlyBetween};
-ghost use Rattle.calls.specs.Call.{hold};
 ghost use Rattle.calls.specs.Model.{start, counting, writing};
 ghost use Rattle.writer_backend.specs.Output.{output_of, mode_of};
 ghost use Rattle.encoded_call.specs.Encoding.{decode};
-ghost use Rattle.run.specs.Played.{run_or, played, end_counted, end_written, stored, CountAgrees, WriteAgrees, WritesAsCounted};
-ghost use Rattle.run.specs.Noting.{noted, place_or};
+ghost use Rattle.run.specs.Played.{run_or, played, first_number, ending, end_counted, end_written, stored, CountAgrees, WriteAgrees, WritesAsCounted};
+ghost use Rattle.run.specs.Noting.{noted};
 
 use calls::Settings;
 use encoded_call::call_at;
-use formatter::Head;
-use writer_backend::{WriterBackend, past};
+use error::{Error, answer_number};
+use formatter::{Entry, Head};
+use writer_backend::WriterBackend;
 
-// The end of a run: its first refusal by document 01's number, 0 for none; its total or cursor; the
-// place of the call that was refused first, as many as there are calls where none was; and how many
-// entries are open.
+// What a call of a run was refused with, and the place of that call.
+#[derive(Clone, Copy)]
+pub struct Refusal {
+    pub error: Error,
+    pub place: usize,
+}
+
+// The end of a run: its first refusal, its total or cursor, and how many entries are open.
 #[derive(Clone, Copy)]
 pub struct Ran {
-    pub first: u8,
+    pub first: Option<Refusal>,
     pub number: usize,
-    pub place: usize,
     pub entries: usize,
 }
 
-// Where the text went, and how many entries are open.
-#[derive(Clone, Copy)]
-struct End {
-    entries: usize,
-    mode: WriterBackend,
+impl Ran {
+    // What the run answers: its first refusal.
+    pub fn answer(self) -> Result<(), Error>
+        ensures { answer_number result ≡ first_number self.first }
+    {
+        match self.first {
+            Some(Refusal { error, place: _ }) => Err(error),
+            None => Ok(()),
+        }
+    }
 }
 
 // Notes an answer with the place of its call, if it is the first refusal.
-fn note(first: &mut u8, place: &mut usize, answer: u8, k: usize)
-    ensures first_after { first.new ≡ hold first.old answer }
-    ensures place_after { place.new ≡ noted first.old answer k place.old }
+fn note(first: &mut Option<Refusal>, answer: Result<(), Error>, place: usize)
+    ensures { first.new ≡ noted first.old answer place }
 {
-    if answer == 0 {
-        return;
-    }
-    if *first == 0 {
-        *first = answer;
-        *place = k;
+    if let Err(error) = answer {
+        if first.is_none() {
+            *first = Some(Refusal { error, place });
+        }
     }
 }
 
-// The place of the first refusal: the end, where there is none.
-fn place_of(refusal: u8, end: usize, place: usize) -> usize
-    ensures { result ≡ place_or refusal end place }
+// Stores an answer's number in its place, if there is one.
+fn store(answers: &mut [u8], at: usize, answer: Result<(), Error>)
+    ensures { answers.new ≡ set answers.old at (answer_number answer) }
 {
-    if refusal == 0 {
-        return end;
-    }
-    place
-}
-
-// Stores an answer in its place, if there is one.
-fn store(answers: &mut [u8], at: usize, answer: u8)
-    ensures { answers.new ≡ set answers.old at answer }
-{
-    if at < answers.len() {
-        answers[at] = answer;
+    if let Some(place) = answers.get_mut(at) {
+        *place = answer_number(answer);
     }
 }
 
-// Plays the calls from the beginning: 9 where the cursor is past the buffer, also of no calls. The
-// first refusal and its place are lent: so they stay out of the registers while nothing is refused.
+// Plays the calls from the beginning, and gives the head at the end: 9 where the cursor is past the
+// buffer, also of no calls. The first refusal is lent: so it stays out of the registers while nothing
+// is refused.
 fn play(
-    mode: WriterBackend,
+    writer: WriterBackend,
     settings: Settings,
     buf: &mut [u8],
     calls: &[u64],
     text: &[u8],
     answers: &mut [u8],
-    first: &mut u8,
-    place: &mut usize,
-) -> End
-    ensures buf_after { record { first = first.new; place = place.new; entries = result.entries; output = output_of result.mode buf.new }
-        ≡ played (mode_of mode) buf.old settings (decode calls.now text.now) }
+    first: &mut Option<Refusal>,
+) -> Head
+    ensures buf_after { ending (decode calls.now text.now) first.new result buf.new
+        ≡ played (mode_of writer) buf.old settings (decode calls.now text.now) }
     ensures answers_after { answers.new
-        ≡ stored answers.old (run_or (start (mode_of mode) buf.old settings) (decode calls.now text.now)).answers }
+        ≡ stored answers.old (run_or (start (mode_of writer) buf.old settings) (decode calls.now text.now)).answers }
 {
-    let mut stack = [0u32; 64];
-    let mut head = Head::new(mode, settings);
-    *first = past(mode, buf);
-    *place = 0;
-    let mut k = 0;
-    let len = calls.len() / 5;
-    while k < len {
+    let mut stack = [Entry::UNUSED; 64];
+    let mut head = Head::new(writer, settings);
+    *first = None;
+    note(first, writer.judge(buf), 0);
+    for k in 0..calls.len() / 5 {
         let i = 5 * k;
         let words = [
             calls[i],
@@ -99,19 +94,11 @@ fn play(
             calls[i + 3],
             calls[i + 4],
         ];
-        let r = call_at(head, &mut stack, buf, words, text);
-        let after = r.head;
-        head = after;
-        note(first, place, r.answer, k);
-        store(answers, k, r.answer);
-        k += 1;
+        let answer = call_at(&mut head, &mut stack, buf, words, text);
+        note(first, answer, k);
+        store(answers, k, answer);
     }
-    *place = place_of(*first, k, *place);
-    let end = head.mode;
-    End {
-        entries: head.open_entries(),
-        mode: end,
-    }
+    head
 }
 
 // Counts a run from a total that there is already, and stores each call's answer as far as there is
@@ -123,14 +110,13 @@ fn count_each_from(
     text: &[u8],
     answers: &mut [u8],
 ) -> Ran
-    ensures result_value { end_counted result ≡ played (counting total) [] settings (decode calls.now text.now) }
+    ensures result_value { end_counted (decode calls.now text.now) result ≡ played (counting total) [] settings (decode calls.now text.now) }
     ensures answers_after { answers.new
         ≡ stored answers.old (run_or (start (counting total) [] settings) (decode calls.now text.now)).answers }
 {
     let mut none = [0u8; 0];
-    let mut first = 0u8;
-    let mut place = 0usize;
-    let end = play(
+    let mut first = None;
+    let head = play(
         WriterBackend::counting(total),
         settings,
         &mut none,
@@ -138,21 +124,18 @@ fn count_each_from(
         text,
         answers,
         &mut first,
-        &mut place,
     );
-    let after = end.mode;
     Ran {
         first,
-        number: after.number,
-        place,
-        entries: end.entries,
+        number: head.writer.number,
+        entries: head.open_entries(),
     }
 }
 
 // Counts a run from a total that there is already: its first refusal, with the place of that call,
 // the total at the end and how many entries are then open.
 pub fn count_run_from(total: usize, settings: Settings, calls: &[u64], text: &[u8]) -> Ran
-    ensures { end_counted result ≡ played (counting total) [] settings (decode calls.now text.now) }
+    ensures { end_counted (decode calls.now text.now) result ≡ played (counting total) [] settings (decode calls.now text.now) }
 {
     let mut none = [0u8; 0];
     count_each_from(total, settings, calls, text, &mut none)
@@ -160,10 +143,10 @@ pub fn count_run_from(total: usize, settings: Settings, calls: &[u64], text: &[u
 
 // Counts a run, and stores each call's answer as far as there is room.
 pub fn count_run_each(settings: Settings, calls: &[u64], text: &[u8], answers: &mut [u8]) -> Ran
-    ensures result_value { end_counted result ≡ played (counting 0) [] settings (decode calls.now text.now) }
+    ensures result_value { end_counted (decode calls.now text.now) result ≡ played (counting 0) [] settings (decode calls.now text.now) }
     ensures answers_after { answers.new
         ≡ stored answers.old (run_or (start (counting 0) [] settings) (decode calls.now text.now)).answers }
-    ensures count_agrees { CountAgrees settings (decode calls.now text.now) result.first result.number }
+    ensures count_agrees { CountAgrees settings (decode calls.now text.now) (first_number result.first) result.number }
 {
     count_each_from(0, settings, calls, text, answers)
 }
@@ -171,8 +154,8 @@ pub fn count_run_each(settings: Settings, calls: &[u64], text: &[u8], answers: &
 // Counts a run: its first refusal, with the place of that call, its total and how many entries it
 // leaves open.
 pub fn count_run(settings: Settings, calls: &[u64], text: &[u8]) -> Ran
-    ensures result_value { end_counted result ≡ played (counting 0) [] settings (decode calls.now text.now) }
-    ensures count_agrees { CountAgrees settings (decode calls.now text.now) result.first result.number }
+    ensures result_value { end_counted (decode calls.now text.now) result ≡ played (counting 0) [] settings (decode calls.now text.now) }
+    ensures count_agrees { CountAgrees settings (decode calls.now text.now) (first_number result.first) result.number }
 {
     let mut none = [0u8; 0];
     count_run_each(settings, calls, text, &mut none)
@@ -187,17 +170,16 @@ pub fn write_run_each(
     text: &[u8],
     answers: &mut [u8],
 ) -> Ran
-    ensures buf_after { end_written result buf.new ≡ played (writing at) buf.old settings (decode calls.now text.now) }
+    ensures buf_after { end_written (decode calls.now text.now) result buf.new ≡ played (writing at) buf.old settings (decode calls.now text.now) }
     ensures answers_after { answers.new
         ≡ stored answers.old (run_or (start (writing at) buf.old settings) (decode calls.now text.now)).answers }
-    ensures write_agrees { WriteAgrees settings (decode calls.now text.now) buf.old at result.first result.number buf.new }
+    ensures write_agrees { WriteAgrees settings (decode calls.now text.now) buf.old at (first_number result.first) result.number buf.new }
     ensures writes_as_counted { WritesAsCounted (played (counting 0) [] settings (decode calls.now text.now)) settings
-        (decode calls.now text.now) buf.old at result.first result.number buf.new }
+        (decode calls.now text.now) buf.old at (first_number result.first) result.number buf.new }
     ensures only_between { OnlyBetween buf.old at buf.new result.number }
 {
-    let mut first = 0u8;
-    let mut place = 0usize;
-    let end = play(
+    let mut first = None;
+    let head = play(
         WriterBackend::writing(at),
         settings,
         buf,
@@ -205,24 +187,21 @@ pub fn write_run_each(
         text,
         answers,
         &mut first,
-        &mut place,
     );
-    let after = end.mode;
     Ran {
         first,
-        number: after.number,
-        place,
-        entries: end.entries,
+        number: head.writer.number,
+        entries: head.open_entries(),
     }
 }
 
 // Writes a run from a cursor: its first refusal, 9 where the cursor is past the buffer, with the
 // place of that call, the cursor at the end and how many entries it leaves open.
 pub fn write_run(settings: Settings, buf: &mut [u8], at: usize, calls: &[u64], text: &[u8]) -> Ran
-    ensures buf_after { end_written result buf.new ≡ played (writing at) buf.old settings (decode calls.now text.now) }
-    ensures write_agrees { WriteAgrees settings (decode calls.now text.now) buf.old at result.first result.number buf.new }
+    ensures buf_after { end_written (decode calls.now text.now) result buf.new ≡ played (writing at) buf.old settings (decode calls.now text.now) }
+    ensures write_agrees { WriteAgrees settings (decode calls.now text.now) buf.old at (first_number result.first) result.number buf.new }
     ensures writes_as_counted { WritesAsCounted (played (counting 0) [] settings (decode calls.now text.now)) settings
-        (decode calls.now text.now) buf.old at result.first result.number buf.new }
+        (decode calls.now text.now) buf.old at (first_number result.first) result.number buf.new }
     ensures only_between { OnlyBetween buf.old at buf.new result.number }
 {
     let mut none = [0u8; 0];

@@ -1,15 +1,13 @@
 -- Demand 3 on a call sheet, from the theorem about whole lists of calls.
-use mathlib.Core.Bool.{Bool, true, false, cond}
-use Rattle.std.specs.Prelude.{Option, Some, None, Ok, Err}
+use Rattle.std.proofs.lemmas.List.{take-replicate, drop-replicate}
+use borrow.Author.Rules.{rules}
+use Rattle.std.specs.Prelude.{Option, Some, Ok}
 use mathlib.Core.Path.{◌≡◌, refl, ap, ◌∙◌}
 use mathlib.Core.List.{List, [], ◌∷◌, ◌++◌, map, append_assoc}
-use Prim.Native.Nat.{ℕ, zero, suc, ◌+◌, ◌-◌, ◌≤◌}
-use native.Mathlib.Nat.{sub-zero, zero-sub, suc-sub-suc}
+use Prim.Native.Nat.{ℕ, suc, ◌+◌, ◌≤◌}
 use native.Mathlib.Omega.{arith}
-use lib.Dec.{ltb}
 use lib.ListN.{length, take, drop, replicate, length-append, length-replicate}
 use lib.Seq.{take_at}
-use borrow.Author.Tests.{ltb-false}
 use Rattle.calls.specs.Call.{Call}
 use Rattle.calls.specs.Model.{number_in, Output, step, run}
 use Rattle.agreement.specs.Untouched.{OnlyBetween}
@@ -17,7 +15,6 @@ use Rattle.agreement.specs.Agreement.{AllDone, defined_text, Counted, Written}
 use Rattle.agreement.proofs.Rest.{rest_untouched, rest-written}
 use Rattle.agreement.proofs.Agree.{agree}
 use Rattle.sheet_line.specs.declared.begin.Begin.{Begin}
-use Rattle.sheet_line.specs.declared.begin.BadBegin.TheVariants.{Cursor}
 use Rattle.sheet_line.specs.Begin.{begin_line, sized}
 use Rattle.sheet_line.specs.Line.{call_of_line}
 use Rattle.sheet.specs.Sheet.{Sheet, fresh_sheet, end_text}
@@ -25,13 +22,8 @@ use Rattle.sheet.specs.Printed.{printed_from}
 use Rattle.sheet.specs.SheetAgreement.{rows_from, sheet_after, rows_text, AllZero, counting_answers, writing_answers, sheet_rows, SheetAgrees, SheetRest}
 
 -- a run that begins has its cursor in the buffer
-tested-within : (b r : Begin) (t : Bool) → ltb b.size b.cursor ≡ t → cond t (Err Cursor) (Ok b) ≡ Ok r → r.cursor ≤ r.size
-tested-within b r true q e = let z : ◌≡◌ {A = ℕ} 0 1 = cc in omega arith
-tested-within b r false q e = let x : b ≡ r = cc in rw x at (ltb-false b.size b.cursor q)
-
 sized-within : (o : Option Begin) (r : Begin) → sized o ≡ Ok r → r.cursor ≤ r.size
-sized-within None r e = let z : ◌≡◌ {A = ℕ} 0 1 = cc in omega arith
-sized-within (Some b) r e = tested-within b r (ltb b.size b.cursor) refl e
+sized-within o r e = search rules
 
 -- both runs of a sheet are runs over its calls
 after-counted : (S : Sheet) (cs : List Call) → (sheet_after S cs).counted ≡ (run S.counted cs).state
@@ -63,18 +55,12 @@ writing-rows k S (c ∷ cs) = ap (λ (l : List ℕ). (step S.written c).answer �
 printed-calls : (k : ℕ) (S : Sheet) (ls : List (List ℕ)) (cs : List Call) → map call_of_line ls ≡ map Some cs
     → printed_from k S ls ≡ rows_text (rows_from k S cs) ++ end_text (sheet_after S cs)
 printed-calls k S [] [] e = refl
-printed-calls k S [] (c ∷ cs) e = absurd (let z : ◌≡◌ {A = ℕ} 0 1 = cc in omega arith)
-printed-calls k S (l ∷ ls) [] e = absurd (let z : ◌≡◌ {A = ℕ} 0 1 = cc in omega arith)
+printed-calls k S [] (c ∷ cs) e = cc
+printed-calls k S (l ∷ ls) [] e = cc
 printed-calls k S (l ∷ ls) (c ∷ cs) e =
     let h : call_of_line l ≡ Some c = cc in
     let r : map call_of_line ls ≡ map Some cs = cc in
     rw (h, printed-calls (suc k) _ ls cs r, append_assoc)
-
--- the first p of n zeros
-take_zeros : (p n : ℕ) → p ≤ n → take p (replicate {A = ℕ} n 0) ≡ replicate p 0
-take_zeros zero n h = refl
-take_zeros (suc p) zero h = absurd (omega arith)
-take_zeros (suc p) (suc n) h = ap (λ (l : List ℕ). 0 ∷ l) (take_zeros p n (omega arith))
 
 pub sheet_agrees : SheetAgrees
 sheet_agrees input n p S cs O P h =
@@ -85,7 +71,7 @@ sheet_agrees input n p S cs O P h =
       counts = rw (counting-rows 2 both cs) C.done;
       total = rw (after-counted both cs, C.output) refl;
       refused = λ k. rw (writing-rows 2 both cs) (W.refused (omega (arith, size)));
-      before = rw (after-written both cs) (W.before ∙ take_zeros p n inside);
+      before = rw (after-written both cs) (W.before ∙ take-replicate {X = ℕ} p n 0 inside);
     }
   where
     size : length (replicate {A = ℕ} n 0) ≡ n
@@ -112,17 +98,11 @@ sheet_agrees input n p S cs O P h =
     before : p + length (defined_text S cs) ≤ length (replicate {A = ℕ} n 0)
         → take (p + length (defined_text S cs)) (take p (replicate n 0) ++ defined_text S cs ++ drop (p + length (defined_text S cs)) (replicate n 0)) ≡ replicate p 0 ++ defined_text S cs
     before k =
-        rw (take_zeros p n inside)
+        rw (take-replicate {X = ℕ} p n 0 inside)
         (take_at (replicate p 0 ++ defined_text S cs) (drop (p + length (defined_text S cs)) (replicate n 0)) (p + length (defined_text S cs)) (simp (length-append, length-replicate)))
 
--- n zeros without the first c
-drop_zeros : (c n : ℕ) → drop c (replicate {A = ℕ} n 0) ≡ replicate (n - c) 0
-drop_zeros zero n = rw (sub-zero n)
-drop_zeros (suc c) zero = rw (zero-sub (suc c))
-drop_zeros (suc c) (suc n) = drop_zeros c n ∙ rw (suc-sub-suc n c)
-
 pub sheet-rest : SheetRest
-sheet-rest n p S cs = rw (after-written both cs) (rest, rest.behind ∙ drop_zeros (number_in W.mode) n)
+sheet-rest n p S cs = rw (after-written both cs) (rest, rest.behind ∙ drop-replicate {X = ℕ} (number_in W.mode) n 0)
   where
     both : Sheet
     both = fresh_sheet (replicate n 0) p S

@@ -37,9 +37,13 @@ bad_text k = cell k 44 ++ bytes "bad\n"
 abbrev pub refused_text : List ℕ
 refused_text = bytes "1,9\n"
 
+-- 'The call sheet': `end`, total, cursor
+abbrev pub end_head : ℕ → ℕ → List ℕ
+end_head total cursor = bytes "end," ++ cell total 44 ++ cell cursor 44
+
 -- 'The call sheet': `end`, total, cursor, bytes before the cursor as HEX
 unfoldable pub end_line : ℕ → ℕ → List ℕ → List ℕ
-end_line total cursor b = bytes "end," ++ cell total 44 ++ cell cursor 44 ++ hex_pairs b ++ (10 ∷ [])
+end_line total cursor b = end_head total cursor ++ hex_pairs b ++ (10 ∷ [])
 
 -- 'The call sheet': the most bytes of a last line that shows n bytes: `end,`, two such numbers, n pairs, a line feed
 abbrev pub max_end : ℕ → ℕ

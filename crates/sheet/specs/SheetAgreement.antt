@@ -1,6 +1,6 @@
 -- Demand 3 on a call sheet: what is printed where the run is proper.
 use Rattle.std.specs.Prelude.{◌≡◌, ◌↔◌, List, [], ◌∷◌, ◌++◌, map, ℕ, suc, ◌+◌, ◌-◌, ◌≤◌, ◌<◌, length, take, drop, replicate, Some, Ok}
-use Rattle.error.specs.declared.Answer.TheVariants.{NotEnoughSpace}
+use Rattle.error.specs.declared.Error.TheVariants.{NotEnoughSpace}
 use Rattle.error.specs.Answer.{number_of}
 use Rattle.calls.specs.declared.Settings.{Settings}
 use Rattle.calls.specs.Call.{Call}

@@ -1,7 +1,7 @@
 -- The sheet of the definitions that the code's two runs and the lent bytes are.
 use Rattle.std.specs.Prelude.{Bool, List, [], ℕ, Option}
 use Rattle.calls.specs.Call.{Call}
-use Rattle.str_writer.specs.Write.{Outcome, outcome, put}
+use Rattle.str_writer.specs.Write.{Outcome, outcome, written, put}
 use Rattle.formatter.specs.View.{view}
 use Rattle.calls.specs.Model.{State, Out, step}
 use Rattle.sheet.specs.Sheet.{Sheet, row_of, stepped}
@@ -44,9 +44,9 @@ pub record LineAnswer : Type 0 where
   pub sheet : Sheet
   pub printed : Outcome
 
--- 'The call sheet': the same of what the code answers, with its sheet and the bytes as they then are
-abbrev pub answered : Answered → code.Sheet → List ℕ → List ℕ → LineAnswer
-answered r s b out = record { is_call = r.is_call; sheet = sheet_of s b; printed = outcome r.print out }
+-- 'The call sheet': the same of what the code answers at a cursor, with its sheet and the bytes as they then are
+abbrev pub answered : ℕ → Answered → code.Sheet → List ℕ → List ℕ → LineAnswer
+answered at r s b out = record { is_call = r.is_call; sheet = sheet_of s b; printed = outcome (written at r.print) out }
 
 -- Document 01, 'The call sheet': what line k answers, printed at a cursor
 abbrev pub answering : ℕ → Sheet → Option Call → List ℕ → ℕ → LineAnswer

@@ -5,7 +5,7 @@
 mod print;
 
 ghost use Rattle.std.specs.Prelude.{◌≡◌, List, ℕ, ◌≤◌, length, Some, is_some};
-ghost use Rattle.str_writer.specs.Write.{outcome, splice};
+ghost use Rattle.str_writer.specs.Write.{outcome, splice, written};
 ghost use Rattle.str_writer.specs.Write.{put as put_text};
 ghost use Rattle.sheet_line.specs.Line.{call_of_line};
 ghost use Rattle.sheet_line.specs.Reading.{text_in, call_in};
@@ -17,11 +17,11 @@ ghost use Rattle.writer_backend.specs.Output.{mode_of};
 ghost use Rattle.sheet.specs.SheetView.{run_of, answer_of, stepped_of, sheet_of, stepping, answered, answering};
 
 use calls::Settings;
+use error::Error;
 use formatter::{Head, Op, call};
 use print::{Row, put_end, put_row};
 pub use print::{put_bad, put_refused};
 use sheet_line::parse_line;
-use str_writer::Written;
 use utils::slice_up_to_len;
 use writer_backend::WriterBackend;
 
@@ -60,11 +60,12 @@ pub struct Sheet {
     pub written: Run,
 }
 
-// Whether a line is a call, and the cursor after what it prints.
+// Whether a line is a call, and the cursor after what it prints. Both kinds of line print, so the
+// print stands beside the flag.
 #[derive(Clone, Copy)]
 pub struct Answered {
     pub is_call: bool,
-    pub print: Written,
+    pub print: Result<usize, Error>,
 }
 
 fn is_call(op: Op) -> bool
@@ -111,7 +112,7 @@ impl Sheet {
         out: &mut [u8],
         at: usize,
     ) -> Answered
-        ensures out_after { answered result self.new buf.new out.new
+        ensures out_after { answered at result self.new buf.new out.new
             ≡ answering line (sheet_of self.old buf.old) (call_of_line l.now) out.old at }
         ensures l_len_bound { length (stepped line (sheet_of self.old buf.old)
             (call_of_line l.now)).text ≤ max_row }
@@ -132,8 +133,8 @@ impl Sheet {
     }
 
     // Prints the last line of a sheet.
-    pub fn end(&self, buf: &[u8], out: &mut [u8], at: usize) -> Written
-        ensures out_after { outcome result out.new ≡ put_text out.old at (end_text (sheet_of self.now buf.now)) }
+    pub fn end(&self, buf: &[u8], out: &mut [u8], at: usize) -> Result<usize, Error>
+        ensures out_after { outcome (written at result) out.new ≡ put_text out.old at (end_text (sheet_of self.now buf.now)) }
         ensures text_len_bound { length (end_text (sheet_of self.now buf.now)) ≤ max_end (length buf.now) }
     {
         let total = self.counted.head.mode.number;

@@ -1,7 +1,7 @@
 -- The two halves of a signed type, and a value without a minus.
-use Rattle.std.proofs.Common.{◌≡◌, List, [], ◌∷◌, ℕ, ◌+◌, ◌-◌, ◌/◌, ◌^◌, ◌<◌, length, refl, pos, arith}
+use borrow.Author.Rules.{rules}
+use Rattle.std.proofs.Common.{◌≡◌, List, ℕ, ◌+◌, ◌-◌, ◌/◌, ◌^◌, ◌<◌, length, pos, arith}
 use Rattle.std.specs.Option.{option_map}
-use borrow.Author.Tests.{ne_eqb}
 use lib.ListN.{get_or}
 use Rattle.value_writes.specs.declared.Width.{Width}
 use Rattle.value_writes.specs.Values.{bits_of}
@@ -15,5 +15,4 @@ greatest_half w g e = omega (arith, half w)
 
 pub signed-plain : (k : ℕ) (s : List ℕ) → (0 < length s → get_or s 0 0 ≡ 45 → ⊥) → signed_of k s ≡ option_map pos (up_to (2 ^ (k - 1) - 1) (decimal_of s))
 unfolding is_shortest
-signed-plain k [] h = refl
-signed-plain k (b ∷ s) h = rw (ne_eqb b 45 (h (omega arith)))
+signed-plain k s h = search rules

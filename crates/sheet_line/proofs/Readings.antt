@@ -1,4 +1,5 @@
 -- A call read from a line, with its text in the buffer or without one.
+use borrow.Author.Rules.{rules}
 use Rattle.std.proofs.Common.{◌≡◌, Bool, true, false, List, ℕ, ◌*◌, ◌≤◌, length, refl, ap, arith}
 use Rattle.std.specs.Prelude.{Option, Some, None}
 use Rattle.std.specs.Option.{option_map}
@@ -10,14 +11,11 @@ use Rattle.formatter.specs.declared.dispatch.Op.{Op}
 use Rattle.fields.specs.Hex.{is_hex, hex_bytes, from_hex, Read, read_hex}
 use Rattle.fields.proofs.Pairs.{bytes-length}
 use Rattle.sheet_line.specs.declared.texts.TextCall.{TextCall}
-use Rattle.sheet_line.specs.declared.texts.TextCall.TheVariants.{Open, Field, Str}
 use Rattle.sheet_line.specs.Reading.{call_in, with_text, call_text, reading, reading_of, read_into}
 
 -- the text of a call that has one
 text_of : (t : TextCall) (s : List ℕ) → call_text (with_text t s) ≡ s
-text_of (Open k) s = refl
-text_of Field s = refl
-text_of (Str m) s = refl
+text_of t s = search rules
 
 -- a field of HEX, or one that is not
 module _ (t : TextCall) (b a : List ℕ) (room : length a ≤ 2 * length b) (x : Option ℕ) (c : List ℕ) (e : ◌≡◌ {A = Read} (record { answer = x; bytes = c }) (read_hex b a)) where
@@ -39,13 +37,13 @@ module _ (t : TextCall) (b a : List ℕ) (room : length a ≤ 2 * length b) (x :
           let k : n ≡ length (hex_bytes a) = cc (ap (λ (r : Read). r.answer) f) in
           let d : c ≡ splice b 0 (hex_bytes a) = ap (λ (r : Read). r.bytes) f in
           rw (h, text_of t (hex_bytes a), d, k, take-append_seam (hex_bytes a), q (hex_bytes a) k)
-      go false h = let z : ◌≡◌ {A = ℕ} 0 1 = cc (ap (λ (r : Read). r.answer) (read_false h)) in absurd (omega arith)
+      go false h = cc (ap (λ (r : Read). r.answer) (read_false h))
 
   pub not-read : x ≡ None → reading_of None c ≡ read_into b (option_map (with_text t) (from_hex a))
   not-read p = go (is_hex a) refl
     where
       go : (h : Bool) → is_hex a ≡ h → reading_of None c ≡ read_into b (option_map (with_text t) (from_hex a))
-      go true h = let z : ◌≡◌ {A = ℕ} 0 1 = cc (ap (λ (r : Read). r.answer) (read_true h)) in absurd (omega arith)
+      go true h = cc (ap (λ (r : Read). r.answer) (read_true h))
       go false h =
           let d : c ≡ b = ap (λ (r : Read). r.bytes) (read_false h) in
           rw (h, d, splice-nil b 0)

@@ -1,4 +1,5 @@
 -- The sheet as a program that reads and writes: what it has written, and what then remains, is what is to be printed for what it has read.
+use borrow.Author.Rules.{rules}
 use Rattle.std.specs.Prelude.{Option}
 use Rattle.std.proofs.Common.{◌≡◌, refl, sym, ◌∙◌, ap, Bool, true, false, ℕ, List, [], ◌++◌, take}
 use Rattle.std.specs.Io.KnownBytes.{Consumes, Appends}
@@ -6,13 +7,10 @@ use mathlib.Core.List.{append_assoc, append-nil}
 use Rattle.lines.specs.declared.Reader.{Reader}
 use Rattle.lines.specs.Lines.{lines_of, clipped, max_line}
 use Rattle.lines.specs.Reading.{held_of, ahead, MayFollow, More}
-use Rattle.lines.specs.Played.{At, remains, begins, Onward, answers, ends, awaits, Steps}
-use Rattle.lines.proofs.Playing.{apart}
+use Rattle.lines.specs.Played.{At, remains, begins, Steps}
 use Rattle.line_input.proofs.Going.{consumes_none, consumes-then, appends_none, appends-then}
 use Rattle.sheet.specs.Printed.{printed}
-use Rattle.sheet_stream.specs.declared.State.{State}
-use Rattle.sheet_stream.specs.declared.State.TheVariants.{First, Later, Over}
-use Rattle.sheet_stream.specs.Left.{Stage, first, over, left, stage_of}
+use Rattle.sheet_stream.specs.Left.{Stage, first, over, left}
 use Rattle.sheet_stream.specs.declared.Stream.{Stream}
 use Rattle.sheet_stream.specs.Step.{at_of, is_over, Stepped, emptied_of}
 use Rattle.sheet_stream.proofs.Playing.{lines-clipped}
@@ -29,25 +27,10 @@ pub going-begins : (R W : Option (List ℕ)) (a : At Stage) → a ≡ begins fir
 going-begins R W a e = rw e (record { read = []; written = []; consumes = consumes_none R; appends = appends_none W; right = λ rest m. refl })
 
 -- one that waits may go on
-waits-open : (a b : At Stage) (w : Bool) → w ≡ true → Onward left max_line a b w → a.ended ≡ false
-waits-open a b w e (answers h) = absurd (apart false e refl)
-waits-open a b w e (ends h) = absurd (apart false e refl)
-waits-open a b w e (awaits u h) = h
-
 steps-open : (a b : At Stage) (w : Bool) → w ≡ true → Steps left max_line w a b → b.ended ≡ false
-steps-open a b w e t = t.ended ∙ waits-open a b w e t.onward
+steps-open a b w e t = search rules
 
 module _ (R₀ R W₀ W : Option (List ℕ)) (a : At Stage) (g : Going R₀ R W₀ W a) where
-  going-steps : (b : At Stage) (waits : Bool) → Steps left max_line waits a b → Going R₀ R W₀ W b
-  going-steps b waits t =
-      record {
-        read = g.read;
-        written = g.written;
-        consumes = g.consumes;
-        appends = g.appends;
-        right = λ rest m. let n : MayFollow a.ended rest = λ e. m (t.ended ∙ e) in ap (λ z. g.written ++ z) (t.prints rest n) ∙ g.right rest n;
-      }
-
   going-writes : (W' : Option (List ℕ)) → Appends W W' a.pending → Going R₀ R W₀ W' (record a { pending = [] })
   going-writes W' p =
       record {
@@ -64,22 +47,17 @@ module _ (R₀ R W₀ W : Option (List ℕ)) (a : At Stage) (g : Going R₀ R W�
       let f : g.written ≡ printed g.read = sym d ∙ g.right [] (λ x. refl) ∙ ap (λ z. left first (clipped max_line (lines_of z))) (append-nil g.read) ∙ lines-clipped (lines_of g.read) in
       (g.read, g.consumes, rw f at g.appends)
 
-stage-over : (h : State) (b : List ℕ) → is_over h ≡ true → stage_of h b ≡ over
-stage-over First b e = absurd (apart false e refl)
-stage-over (Later k n s) b e = absurd (apart false e refl)
-stage-over Over b e = refl
-
 -- what a turn does from h to r, on the lent bytes
 module _ (R₀ R W₀ W : Option (List ℕ)) (h r : Stream) (waits : Bool) (space b out b' out' : List ℕ) (t : Stepped h r waits space b out b' out') (g : Going R₀ R W₀ W (at_of h space b out)) where
   pub turn-steps : Going R₀ R W₀ W (at_of r space b' out')
-  turn-steps = going-steps R₀ R W₀ W (at_of h space b out) g (at_of r space b' out') waits t.steps
+  turn-steps = search rules
 
   module _ (W' : Option (List ℕ)) (p : Appends W W' (take r.printed out')) where
     pub turn-writes : Going R₀ R W₀ W' (at_of (emptied_of r) space b' out')
     turn-writes = going-writes R₀ R W₀ W (at_of r space b' out') turn-steps W' p
 
     pub turn-ends : is_over r.state ≡ true → (read : List ℕ) × Consumes R₀ R read × Appends W₀ W' (printed read)
-    turn-ends e = going-ends R₀ R W₀ W' (at_of (emptied_of r) space b' out') turn-writes (stage-over r.state b' e) refl
+    turn-ends e = going-ends R₀ R W₀ W' (at_of (emptied_of r) space b' out') turn-writes (search rules) refl
 
     pub turn-reads : waits ≡ true → (R' : Option (List ℕ)) (k : Reader) (c : List ℕ) (m : More r.reader k space c) → Consumes R R' m.piece → Going R₀ R' W₀ W' (at_of (record r { reader = k; printed = 0 }) c b' out')
     turn-reads e R' k c m q =
@@ -89,5 +67,5 @@ module _ (R₀ R W₀ W : Option (List ℕ)) (h r : Stream) (waits : Bool) (spac
           written = turn-writes.written;
           consumes = consumes-then R₀ R R' turn-writes.read m.piece turn-writes.consumes q;
           appends = turn-writes.appends;
-          right = λ rest f. rw (m.bytes, m.skips, append_assoc (held_of r.reader space) m.piece rest, append_assoc turn-writes.read m.piece rest) (turn-writes.right (m.piece ++ rest) (λ x. absurd (apart r.reader.ended x o)));
+          right = λ rest f. rw (m.bytes, m.skips, append_assoc (held_of r.reader space) m.piece rest, append_assoc turn-writes.read m.piece rest) (turn-writes.right (m.piece ++ rest) (λ x. cc));
         }

@@ -1,26 +1,23 @@
 -- Laws of a sheet's stages, and of what is printed behind what was printed.
+use Rattle.std.proofs.lemmas.Grind.{common_steps}
+use borrow.Author.Rules.{rules}
 use mathlib.Core.Bool.{Bool, true, false, cond}
-use mathlib.Core.Path.{◌≡◌, refl, ap, ◌∙◌}
+use mathlib.Core.Path.{◌≡◌, refl, sym, ap, ◌∙◌}
 use mathlib.Core.List.{List, [], ◌∷◌, ◌++◌, append_assoc, append-nil}
-use Rattle.std.specs.Prelude.{Option, Some, None, Ok, Err}
+use Rattle.std.specs.Prelude.{Option, Some, None, Result, Ok, Err}
 use Rattle.std.proofs.lemmas.Option.{none-some, same_Some}
 use Prim.Native.Nat.{ℕ, suc, ◌+◌, ◌-◌, ◌*◌, ◌^◌, ◌≤◌}
 use native.Mathlib.Numerals.{add-one}
 use native.Mathlib.Omega.{arith}
-use borrow.Author.Tests.{leb-true}
-use lib.Dec.{ltb, leb}
-use lib.ListN.{length, take, drop, replicate, length-append, length-take}
+use lib.ListN.{length, take, drop, replicate, length-append}
 use lib.Seq.{take_at, length-take-le}
-use Rattle.str_writer.specs.declared.piece.Written.{Written}
-use Rattle.str_writer.specs.Write.{Outcome, outcome, splice, put}
+use Rattle.std.specs.Result.{result_unwrap_or}
+use Rattle.error.specs.declared.Error.{Error}
+use Rattle.str_writer.specs.Write.{Written, written, Outcome, outcome, splice, put}
 use Rattle.fields.proofs.Cells.{put-fits}
-use Rattle.formatting.specs.Bytes.{bytes}
-use Rattle.fields.specs.Fields.{fields}
-use Rattle.std.specs.Str.{bytes_eq}
-use Rattle.fields.specs.Decimal.{decimal_of, up_to}
 use Rattle.sheet_line.specs.declared.begin.Begin.{Begin}
 use Rattle.sheet_line.specs.declared.begin.BadBegin.TheVariants.{Form, Cursor}
-use Rattle.sheet_line.specs.Begin.{begun, flag_fields, size_fields, begin_fields, begin_line, sized, begin_of}
+use Rattle.sheet_line.specs.Begin.{begin_line, begin_of}
 use Rattle.formatting.specs.declared.flags.FormattingFlags.{FormattingFlags}
 use Rattle.sheet_line.specs.Line.{call_of_line}
 use Rattle.sheet.specs.Sheet.{Sheet, fresh_sheet, bad_text, refused_text, end_text, stepped}
@@ -42,6 +39,11 @@ module _ (b : List ℕ) (at : ℕ) (t : List ℕ) (w : Written) (c : List ℕ) (
       let n : length (take at b ++ t) ≡ at + length t = rw (length-append, length-take-le at b (omega arith)) in
       rw (text-end, u) (take_at (take at b ++ t) (drop (at + length t) b) (at + length t) n)
 
+-- a caller that goes on where nothing was printed goes on at the cursor that it had
+pub goes-on : (at : ℕ) (r : Result ℕ Error) {n : ℕ} → n ≡ result_unwrap_or r at → (written at r).at ≡ n
+goes-on at (Ok n) e = sym e
+goes-on at (Err x) e = sym e
+
 -- a line that ends the run
 pub answers-over : (S : Stage) (l out after : List ℕ) (at : ℕ) (t : List ℕ) (w : Written) → ((ls : List (List ℕ)) → left S (l ∷ ls) ≡ t) → outcome w after ≡ put out at t → length t ≤ 105 → at + 105 ≤ length out → Answers S over l out after at w.at
 answers-over S l out after at t w e p h k =
@@ -56,53 +58,18 @@ begin-refused l e ls = rw e
 
 -- a line that begins the runs
 pub answers-fresh : (l out : List ℕ) (at n p : ℕ) (f : FormattingFlags) (T : Stage) → begin_of l ≡ Ok (record { size = n; cursor = p; flags = f }) → T ≡ later 2 (fresh_sheet (replicate n 0) p (record { flags = f })) → Answers first T l out out at at
-answers-fresh l out at n p f T e q = record { prints = λ ls. rw (e, q); short = omega arith }
+answers-fresh l out at n p f T e q = search rules
 
 -- `begin` has n at most 4,096
-module _ (b : Begin) where
-  limit_number : (d o : Option ℕ) (x : Option FormattingFlags) → begun (up_to 4096 d) o x ≡ Some b → b.size ≤ 4096
-  limit_number None o x e = absurd (none-some b e)
-  limit_number (Some m) o x e = by_test (leb m 4096) refl o x e
-    where
-      by_test : (t : Bool) → leb m 4096 ≡ t → (o : Option ℕ) (x : Option FormattingFlags) → begun (cond t (Some m) None) o x ≡ Some b → b.size ≤ 4096
-      by_test false q o x e = absurd (none-some b e)
-      by_test true q None x e = absurd (none-some b e)
-      by_test true q (Some k) None e = absurd (none-some b e)
-      by_test true q (Some k) (Some g) e =
-          let y : m ≡ b.size = ap (λ (a : Begin). a.size) (same_Some (record { size = m; cursor = k; flags = g }) b e) in
-          omega (arith, leb-true m 4096 q)
-
-  limit_sizes : (fs : List (List ℕ)) → size_fields fs ≡ Some b → b.size ≤ 4096
-  limit_sizes [] e = absurd (none-some b e)
-  limit_sizes (n ∷ []) e = absurd (none-some b e)
-  limit_sizes (n ∷ p ∷ fs) e = limit_number (decimal_of n) (up_to (2 ^ 64 - 1) (decimal_of p)) (flag_fields fs) e
-
-  limit_word : (t : Bool) (fs : List (List ℕ)) → cond t (size_fields fs) None ≡ Some b → b.size ≤ 4096
-  limit_word true fs e = limit_sizes fs e
-  limit_word false fs e = absurd (none-some b e)
-
-  limit_line : (t : Bool) (fs : List (List ℕ)) → cond t None (begin_fields fs) ≡ Some b → b.size ≤ 4096
-  limit_line true fs e = absurd (none-some b e)
-  limit_line false [] e = absurd (none-some b e)
-  limit_line false (w ∷ fs) e = limit_word (bytes_eq w (bytes "begin")) fs e
-
-  said : (o : Option Begin) → sized o ≡ Ok b → o ≡ Some b
-  said None e = let z : ◌≡◌ {A = ℕ} 0 1 = cc in absurd (omega arith)
-  said (Some a) e = by_test (ltb a.size a.cursor) e
-    where
-      by_test : (t : Bool) → cond t (Err Cursor) (Ok a) ≡ Ok b → Some a ≡ Some b
-      by_test true e = let z : ◌≡◌ {A = ℕ} 0 1 = cc in absurd (omega arith)
-      by_test false e = cc
-
-  pub fresh-size : (l : List ℕ) → begin_of l ≡ Ok b → b.size ≤ 4096
-  unfolding begin_line
-  fresh-size l e = limit_line (ltb 4096 (length l)) (fields l) (said (begin_line l) e)
+pub fresh-size : (b : Begin) (l : List ℕ) → begin_of l ≡ Ok b → b.size ≤ 4096
+unfolding begin_line
+fresh-size b l e = search rules
 
 -- the last line of a run that has begun
 module _ (k : ℕ) (S : code.Sheet) (b out : List ℕ) (at n : ℕ) (after : List ℕ) (v : Written) (h : n ≤ 4096) (m : length (end_text (sheet_of S (take n b))) ≤ 47 + 2 * length (take n b))
     (p : outcome v after ≡ put out at (end_text (sheet_of S (take n b)))) (r : at + 8239 ≤ length out) where
   end_fits : at + length (end_text (sheet_of S (take n b))) ≤ at + 8239
-  end_fits = let l : length (take n b) ≤ 4096 = rw length-take (omega arith) in omega arith
+  end_fits = grind (arith, common_steps)
 
   pub end_short : v.at ≤ at + 8239
   end_short = let f = end_fits in let g = text-end out at (end_text (sheet_of S (take n b))) v after p (omega arith) in omega arith
@@ -112,8 +79,7 @@ module _ (k : ℕ) (S : code.Sheet) (b out : List ℕ) (at n : ℕ) (after : Lis
 
 -- a line of a run that has begun
 left-next : (t : Bool) (k : ℕ) (S : Sheet) (ls : List (List ℕ)) → left (cond t (later (k + 1) S) over) ls ≡ cond t (printed_from (suc k) S ls) []
-left-next true k S ls = rw (add-one k)
-left-next false k S ls = refl
+left-next t k S ls = search rules
 
 module _ (k : ℕ) (S : Sheet) (l out after : List ℕ) (at : ℕ) (t : Bool) (S' : Sheet) (v : Written) where
   answers-line : ◌≡◌ {A = LineAnswer} (record { is_call = t; sheet = S'; printed = outcome v after }) (answering k S (call_of_line l) out at)
@@ -127,13 +93,13 @@ module _ (k : ℕ) (S : Sheet) (l out after : List ℕ) (at : ℕ) (t : Bool) (S
       record { prints = λ ls. rw (left-next t k S' ls, text-told out at x v after p (omega arith), i, j, append_assoc); short = omega arith }
 
 -- the same, of the part of a buffer that is the run's
-module _ (k n : ℕ) (S S' : code.Sheet) (b x : List ℕ) (r : Answered) (l out after : List ℕ) (at : ℕ) (f : answered r S' x after ≡ answering k (sheet_of S (take n b)) (call_of_line l) out at)
+module _ (k n : ℕ) (S S' : code.Sheet) (b x : List ℕ) (r : Answered) (l out after : List ℕ) (at : ℕ) (f : answered at r S' x after ≡ answering k (sheet_of S (take n b)) (call_of_line l) out at)
     (h : length (stepped k (sheet_of S (take n b)) (call_of_line l)).text ≤ 105) (q : length x ≡ n) (v : at + 105 ≤ length out) where
-  answers-part : Answers (stage_of (Later k n S) b) (cond r.is_call (stage_of (Later (k + 1) n S') (x ++ drop n b)) over) l out after at r.print.at
-  answers-part = rw (take_at x (drop n b) n q) (answers-line k (sheet_of S (take n b)) l out after at r.is_call (sheet_of S' x) r.print f h v)
+  answers-part : Answers (stage_of (Later k n S) b) (cond r.is_call (stage_of (Later (k + 1) n S') (x ++ drop n b)) over) l out after at (written at r.print).at
+  answers-part = rw (take_at x (drop n b) n q) (answers-line k (sheet_of S (take n b)) l out after at r.is_call (sheet_of S' x) (written at r.print) f h v)
 
-  pub answers-later : r.is_call ≡ true → Answers (stage_of (Later k n S) b) (stage_of (Later (k + 1) n S') (x ++ drop n b)) l out after at r.print.at
+  pub answers-later : r.is_call ≡ true → Answers (stage_of (Later k n S) b) (stage_of (Later (k + 1) n S') (x ++ drop n b)) l out after at (written at r.print).at
   answers-later i = rw i at answers-part
 
-  pub answers-last : r.is_call ≡ false → Answers (stage_of (Later k n S) b) over l out after at r.print.at
+  pub answers-last : r.is_call ≡ false → Answers (stage_of (Later k n S) b) over l out after at (written at r.print).at
   answers-last i = rw i at answers-part

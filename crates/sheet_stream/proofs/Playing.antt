@@ -1,17 +1,18 @@
 -- The sheet as a program that answers lines: what it writes in all.
-use mathlib.Core.Bool.{Bool, true, false, ◌||◌}
+use borrow.Author.Rules.{rules}
+use mathlib.Core.Bool.{Bool, true, false}
 use mathlib.Core.Path.{◌≡◌, refl, ap, sym, ◌∙◌}
 use mathlib.Core.List.{List, [], ◌∷◌, ◌++◌}
 use Prim.Native.Nat.{ℕ, suc, ◌+◌, ◌<◌}
 use native.Mathlib.Omega.{arith}
-use borrow.Author.Tests.{lt-ltb, ltb-true, ltb-false, leb-false}
-use lib.Dec.{ltb, leb}
+use borrow.Author.Tests.{ltb-true, ltb-false}
+use lib.Dec.{ltb}
 use lib.ListN.{length, take, replicate}
 use lib.Seq.{take_all, length-take-le}
 use Rattle.std.specs.Prelude.{None, Result, Ok, Err}
 use Rattle.lines.specs.Lines.{lines_of, max_line, clipped}
 use Rattle.lines.specs.Played.{joined}
-use Rattle.lines.proofs.Playing.{apart, plays_right, breaks_off_right}
+use Rattle.lines.proofs.Playing.{plays_right, breaks_off_right}
 use Rattle.sheet_line.specs.declared.begin.Begin.{Begin}
 use Rattle.sheet_line.specs.declared.begin.BadBegin.{BadBegin}
 use Rattle.sheet_line.specs.declared.begin.BadBegin.TheVariants.{Form, Cursor}
@@ -20,8 +21,7 @@ use Rattle.sheet_line.specs.Line.{call_of_line}
 use Rattle.sheet.specs.Sheet.{Sheet, fresh_sheet, stepped}
 use Rattle.sheet.specs.Printed.{printed_from, printed_after, printed_lines}
 use Rattle.sheet_stream.specs.Left.{first, left, SheetPlaysRight, SheetBreaksOffRight}
-use Rattle.sheet_stream.specs.declared.Stream.{Stream}
-use Rattle.sheet_stream.specs.Step.{Sized, is_over, is_due, StaysReady}
+use Rattle.sheet_stream.specs.Step.{StaysReady}
 
 -- a line that the reader clipped means what it meant, where all lines above the limit mean the same
 clipped-line : {A : Type 0} (f : List ℕ → A) (x : A) → ((l : List ℕ) → max_line < length l → f l ≡ x) → (l : List ℕ) → f (take (max_line + 1) l) ≡ f l
@@ -36,11 +36,11 @@ clipped-line {A} f x long l = by_test (ltb max_line (length l)) refl
 
 long_begin : (l : List ℕ) → max_line < length l → begin_of l ≡ Err Form
 unfolding begin_line
-long_begin l h = rw (lt-ltb max_line (length l) h)
+long_begin l h = search rules
 
 long_call : (l : List ℕ) → max_line < length l → call_of_line l ≡ None
 unfolding call_of_line
-long_call l h = rw (lt-ltb max_line (length l) h)
+long_call l h = search rules
 
 from-clipped : (k : ℕ) (S : Sheet) (ls : List (List ℕ)) → printed_from k S (clipped max_line ls) ≡ printed_from k S ls
 from-clipped k S [] = refl
@@ -62,16 +62,5 @@ pub sheet-breaks_off_right : SheetBreaksOffRight
 sheet-breaks_off_right ins outs b p rest m = breaks_off_right left max_line first ins outs b p rest m ∙ lines-clipped (lines_of (joined ins ++ rest))
 
 -- what is ready stays so
-not_due : (h : Stream) (waits : Bool) → is_due h waits ≡ false → h.printed < 32768
-not_due h waits e = by_cases waits (is_over h.state) e
-  where
-    by_cases : (w g : Bool) → (w || (g || leb 32768 h.printed)) ≡ false → h.printed < 32768
-    by_cases true g e = absurd (apart true refl e)
-    by_cases false true e = absurd (apart true refl e)
-    by_cases false false e = leb-false 32768 h.printed e
-
 pub stays-ready : StaysReady
-stays-ready h r waits b out b' out' R o n lb lo k =
-    let s = R.sized in
-    let t : Sized r.state b' = record { size = o.size; lends = omega (arith, s.lends); counts = k } in
-    (record { sized = t; room = omega (arith, R.room) }, λ e m. let f = not_due r waits e in record { sized = t; room = omega arith })
+stays-ready h r waits b out b' out' R o n lb lo k = search rules

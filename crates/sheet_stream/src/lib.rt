@@ -63,11 +63,11 @@ impl State {
         match parse_begin(l) {
             Err(BadBegin::Form) => {
                 *self = State::Over;
-                put_bad(out, at, 1).at
+                put_bad(out, at, 1).unwrap_or(at)
             }
             Err(BadBegin::Cursor) => {
                 *self = State::Over;
-                put_refused(out, at).at
+                put_refused(out, at).unwrap_or(at)
             }
             Ok(
                 Begin {
@@ -109,7 +109,7 @@ impl State {
                 if !answered.is_call {
                     *self = State::Over;
                 }
-                answered.print.at
+                answered.print.unwrap_or(at)
             }
             State::Over => at,
         }
@@ -123,7 +123,7 @@ impl State {
     {
         match self {
             State::Later { size, sheet, .. } => {
-                sheet.end(slice_up_to_len(buf, *size), out, at).at
+                sheet.end(slice_up_to_len(buf, *size), out, at).unwrap_or(at)
             }
             _ => at,
         }

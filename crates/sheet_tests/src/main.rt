@@ -29,9 +29,9 @@ fn unread<R: Read>(input: &mut R) -> u64 {
 
 // Lays a text, a name and a line feed.
 fn lay_name(out: &mut [u8], s: &[u8], name: &[u8]) -> usize {
-    let before = write_ascii(out, 0, s);
-    let named = write_ascii(out, before.at, name);
-    write_ascii(out, named.at, b"\n").at
+    let at = write_ascii(out, 0, s).unwrap_or(0);
+    let at = write_ascii(out, at, name).unwrap_or(at);
+    write_ascii(out, at, b"\n").unwrap_or(at)
 }
 
 // Where the sheets behind the word `closed` or `full` are answered, so that each write fails; None
@@ -68,8 +68,8 @@ fn played<R: Files + Print>(
     // A write that failed shows in how much is left to read.
     let _ = play(&mut input, file);
     let left = unread(&mut input);
-    let number = put_number(out, 0, left, b' ');
-    write_ascii(out, number.at, b"bytes are not read\n").at
+    let at = put_number(out, 0, left, b' ').unwrap_or(0);
+    write_ascii(out, at, b"bytes are not read\n").unwrap_or(at)
 }
 
 fn main(rt: HostRuntime) -> io::Result<()> {

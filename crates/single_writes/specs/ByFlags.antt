@@ -1,6 +1,6 @@
 -- A call whose flags are a number, as a caller in another language passes them (docs/DECISIONS.md, 'For senders, and the comparison'), and a counter with a total.
 use Rattle.std.specs.Prelude.{cond, List, ℕ}
-use Rattle.error.specs.declared.Answer.TheVariants.{WrongCall}
+use Rattle.error.specs.declared.Error.TheVariants.{WrongCall}
 use Rattle.error.specs.Answer.{number_of}
 use Rattle.formatting.specs.declared.flags.FormattingFlags.{FormattingFlags}
 use Rattle.formatting.specs.FlagsAsNumber.{are_flags, flags_of}

@@ -1,7 +1,7 @@
 -- Document 01, 'Beside the record': an `Integer` as three numbers, and what is left of one laid in an array.
 use Rattle.std.specs.Prelude.{Bool, List, ℕ}
-use Rattle.error.specs.declared.Answer.TheVariants.{Done, WrongCall}
-use Rattle.error.specs.Answer.{number_of}
+use Rattle.error.specs.declared.Error.TheVariants.{WrongCall}
+use Rattle.error.specs.Answer.{done, number_of}
 use Rattle.formatting.specs.declared.flags.FormattingFlags.{FormattingFlags}
 use Rattle.pwrapper.specs.Number.{hex_text, bin_text}
 use Rattle.pargument.specs.declared.Integer.{Integer}
@@ -24,7 +24,7 @@ laid_in r at a = record { answer = r; start = at; array = a }
 
 -- a text at the end of an array of n bytes
 abbrev pub laid : ℕ → List ℕ → Laid
-laid n t = record { answer = number_of Done; start = start_of n t; array = array_of n t }
+laid n t = record { answer = done; start = start_of n t; array = array_of n t }
 
 -- the text of an `Integer` by flags that are a number; else 8, and place and array as they were
 abbrev pub laid_by : ℕ → ℕ → List ℕ → (FormattingFlags → Laid) → Laid

@@ -2,9 +2,8 @@
 use Rattle.std.specs.Prelude.{List, [], ℕ}
 use Rattle.formatting.specs.Flags.{default_flags}
 use Rattle.utils.specs.declared.Range.{Range}
-use Rattle.str_writer.specs.declared.piece.Written.{Written}
 use Rattle.str_writer.specs.Value.{Value, whole}
-use Rattle.str_writer.specs.Write.{outcome, write}
+use Rattle.str_writer.specs.Write.{Written, outcome, write}
 use Rattle.calls.specs.Model.{counting, writing, PieceOutcome, to, wrote}
 use Rattle.value_writes.specs.Values.{value_out}
 use Rattle.single_writes.specs.ByFlags.{by_flags, wrong_flags, from}

@@ -1,44 +1,42 @@
 // Single values counted: the length of a value added to a total, which is kept where the answer is a refusal.
 ghost use Rattle.std.specs.Prelude.{◌≡◌, List, [], ℕ, pos, length};
+ghost use Rattle.error.specs.Answer.{answer_number};
 ghost use Rattle.str_writer.specs.Value.{integer, char, str, display, debug};
 ghost use Rattle.calls.specs.Model.{counting, put_in};
 ghost use Rattle.single_writes.specs.Single.{entire, totals, counts, counts_by};
 
 use char_encoding::{char_debug_len, char_display_len};
-use error::Answer;
-use formatting::flags_of;
+use error::{Error, answer_number};
+use formatting::FormattingFlags;
 use pwrapper::{
     PrimitiveInteger, compute_debug_len, compute_display_len, compute_utf8_debug_len_in_range,
 };
-use str_writer::{char_fault, str_fault};
+use str_writer::str_fault;
 use utils::Range;
 
-// Adds a length to a total, or gives 6 where that would pass 2^64 - 1.
-fn add(total: &mut usize, len: usize) -> u8
-    ensures { (t : List ℕ) → len ≡ length t → totals result total.new ≡ put_in (counting total.old) [] t }
+// Adds a length to a total, or refuses it with 6 where that would pass 2^64 - 1.
+fn add(total: &mut usize, len: usize) -> Result<(), Error>
+    ensures { (t : List ℕ) → len ≡ length t → totals (answer_number result) total.new ≡ put_in (counting total.old) [] t }
 {
-    if len <= usize::MAX - *total {
-        *total += len;
-        return Answer::Done.number();
-    }
-    Answer::CountTooLarge.number()
+    *total = total.checked_add(len).ok_or(Error::CountTooLarge)?;
+    Ok(())
 }
 
 // Counts an integer in decimal.
 fn count_display<I: PrimitiveInteger>(total: &mut usize, x: I) -> u8
     ensures { totals result total.new ≡ counts total.old (integer display I.BITS (I.value x)) }
 {
-    add(total, compute_display_len(x))
+    answer_number(add(total, compute_display_len(x)))
 }
 
 // Counts an integer in the form that the flags say.
 fn count_debug<I: PrimitiveInteger>(total: &mut usize, x: I, flags: u64) -> u8
     ensures { totals result total.new ≡ counts_by flags total.old (integer debug I.BITS (I.value x)) }
 {
-    if flags >= 12 {
-        return Answer::WrongCall.number();
+    match FormattingFlags::try_from(flags) {
+        Ok(flags) => answer_number(add(total, compute_debug_len(x, flags))),
+        Err(_) => u8::from(Error::WrongCall),
     }
-    add(total, compute_debug_len(x, flags_of(flags)))
 }
 
 // Counts a u8 in decimal.
@@ -169,17 +167,26 @@ pub extern "C" fn single_count_i64_debug(total: &mut usize, x: i64, flags: u64) 
     count_debug(total, x, flags)
 }
 
+// Counts a character by what it meets.
+fn count_char(total: &mut usize, c: u32) -> Result<(), Error>
+    ensures { totals (answer_number result) total.new ≡ counts total.old (char display c) }
+{
+    add(total, char_display_len(c)?)
+}
+
 // Counts a character.
 #[unsafe(no_mangle)]
 pub extern "C" fn single_count_char(total: &mut usize, c: u32) -> u8
     ensures { totals result total.new ≡ counts total.old (char display c) }
 {
-    let fault = char_fault(c);
-    if !fault.is_done() {
-        return fault.number();
-    }
-    let e = char_display_len(c);
-    add(total, e.len)
+    answer_number(count_char(total, c))
+}
+
+// Counts a character, quoted, by what it meets.
+fn count_char_debug(total: &mut usize, c: u32) -> Result<(), Error>
+    ensures { totals (answer_number result) total.new ≡ counts total.old (char debug c) }
+{
+    add(total, char_debug_len(c)?)
 }
 
 // Counts a character, quoted.
@@ -187,12 +194,15 @@ pub extern "C" fn single_count_char(total: &mut usize, c: u32) -> u8
 pub extern "C" fn single_count_char_debug(total: &mut usize, c: u32) -> u8
     ensures { totals result total.new ≡ counts total.old (char debug c) }
 {
-    let fault = char_fault(c);
-    if !fault.is_done() {
-        return fault.number();
-    }
-    let e = char_debug_len(c);
-    add(total, e.len)
+    answer_number(count_char_debug(total, c))
+}
+
+// Counts a string by what it meets.
+fn count_str(total: &mut usize, s: &[u8]) -> Result<(), Error>
+    ensures { totals (answer_number result) total.new ≡ counts total.old (entire (str display) s.now) }
+{
+    str_fault(s)?;
+    add(total, s.len())
 }
 
 // Counts a string.
@@ -200,27 +210,22 @@ pub extern "C" fn single_count_char_debug(total: &mut usize, c: u32) -> u8
 pub extern "C" fn single_count_str(total: &mut usize, s: &[u8]) -> u8
     ensures { totals result total.new ≡ counts total.old (entire (str display) s.now) }
 {
-    let fault = str_fault(s);
-    if !fault.is_done() {
-        return fault.number();
-    }
-    add(total, s.len())
+    answer_number(count_str(total, s))
 }
 
-// Counts a string, quoted: as the whole of its range, as a run does.
+// Counts a string, quoted, by what it meets: as the whole of its range, as a run does.
+fn count_str_debug(total: &mut usize, s: &[u8]) -> Result<(), Error>
+    ensures { totals (answer_number result) total.new ≡ counts total.old (entire (str debug) s.now) }
+{
+    str_fault(s)?;
+    let end = s.len();
+    add(total, compute_utf8_debug_len_in_range(s, Range { start: 0, end })?)
+}
+
+// Counts a string, quoted.
 #[unsafe(no_mangle)]
 pub extern "C" fn single_count_str_debug(total: &mut usize, s: &[u8]) -> u8
     ensures { totals result total.new ≡ counts total.old (entire (str debug) s.now) }
 {
-    let fault = str_fault(s);
-    if !fault.is_done() {
-        return fault.number();
-    }
-    let end = s.len();
-    let quoted = compute_utf8_debug_len_in_range(s, Range { start: 0, end });
-    let len = quoted.len;
-    if len == 0 {
-        return Answer::CountTooLarge.number();
-    }
-    add(total, len)
+    answer_number(count_str_debug(total, s))
 }

@@ -5,8 +5,8 @@ ghost use Rattle.pargument.specs.declared.Integer as parts;
 ghost use Rattle.pargument.specs.Integer.{integer_of, integer_display, start_of, array_of};
 ghost use Rattle.single_writes.specs.Laid.{of_parts, laid_in, laid_by, in_binary, in_hexadecimal};
 
-use error::Answer;
-use formatting::flags_of;
+use error::Error;
+use formatting::FormattingFlags;
 use pargument::{Integer, to_integer};
 
 // Leaves the absolute value and the mask in their places, and gives whether the integer is negative.
@@ -95,19 +95,19 @@ pub extern "C" fn single_integer_binary(
     ensures { laid_in result start.new array.new
         ≡ laid_by flags start.old array.old (in_binary (of_parts is_negative unsigned mask)) }
 {
-    if flags >= 12 {
-        return Answer::WrongCall.number();
-    }
+    let Ok(flags) = FormattingFlags::try_from(flags) else {
+        return u8::from(Error::WrongCall);
+    };
     let i = Integer {
         is_negative,
         unsigned,
         mask,
     };
-    let s = i.to_start_array_binary(flags_of(flags));
-    *start = s.start;
-    let digits = s.array;
+    let laid = i.to_start_array_binary(flags);
+    *start = laid.start;
+    let digits = laid.array;
     *array = digits;
-    Answer::Done.number()
+    0
 }
 
 // Lays the hexadecimal text of an integer at the end of the array; start is the place of its first byte.
@@ -123,19 +123,19 @@ pub extern "C" fn single_integer_hexadecimal(
     ensures { laid_in result start.new array.new
         ≡ laid_by flags start.old array.old (in_hexadecimal (of_parts is_negative unsigned mask)) }
 {
-    if flags >= 12 {
-        return Answer::WrongCall.number();
-    }
+    let Ok(flags) = FormattingFlags::try_from(flags) else {
+        return u8::from(Error::WrongCall);
+    };
     let i = Integer {
         is_negative,
         unsigned,
         mask,
     };
-    let s = i.to_start_array_hexadecimal(flags_of(flags));
-    *start = s.start;
-    let digits = s.array;
+    let laid = i.to_start_array_hexadecimal(flags);
+    *start = laid.start;
+    let digits = laid.array;
     *array = digits;
-    Answer::Done.number()
+    0
 }
 
 // Lays the decimal text of an integer at the end of the array, and gives the place of its first byte.

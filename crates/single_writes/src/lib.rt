@@ -8,45 +8,37 @@ mod counts;
 mod integers;
 
 ghost use Rattle.std.specs.Prelude.{◌≡◌, List, ℕ, pos, length};
-ghost use Rattle.error.specs.declared.Answer.TheVariants.{WrongCall};
-ghost use Rattle.error.specs.Answer.{number_of};
 ghost use Rattle.str_writer.specs.Value.{integer, char, str, ascii, repeated, display, debug};
 ghost use Rattle.str_writer.specs.Truncate.{truncated, truncated_utf8};
-ghost use Rattle.calls.specs.Call.{hold};
-ghost use Rattle.calls.specs.Model.{writing, beyond};
+ghost use Rattle.str_writer.specs.Write.{Outcome, outcome, written};
+ghost use Rattle.calls.specs.Model.{wrote, writing};
+ghost use Rattle.single_writes.specs.ByFlags.{wrong_flags};
 ghost use Rattle.single_writes.specs.Single.{entire, between, gives, writes, writes_by, keeps};
 
-use error::Answer;
-use formatting::flags_of;
+use error::Error;
+use formatting::FormattingFlags;
 use integer_writes::{write_debug, write_display};
 use pwrapper::PrimitiveInteger;
 use quoted_writes::{
     write_ascii_debug, write_ascii_range_debug, write_str_debug, write_str_range_debug,
 };
 use str_writer::{
-    Written, cursor_fault, truncate, truncate_utf8, write_ascii, write_ascii_range,
+    cursor_fault, truncate, truncate_utf8, write_ascii, write_ascii_range,
     write_ascii_repeated, write_char, write_char_debug, write_str, write_str_range,
 };
 use utils::Range;
 
-// What flags that are no number below 12 are refused with: 9 where the cursor is past a buffer of len bytes, else 8.
-fn no_flags(len: usize, cursor: usize) -> u8
-    ensures { (b : List ℕ) → length b ≡ len → result ≡ hold (beyond (writing cursor) b) (number_of WrongCall) }
+// Leaves the cursor behind what was written, and gives the answer's number.
+fn answered(cursor: &mut usize, w: Result<usize, Error>) -> u8
+    ensures { (b : List ℕ) (o : Outcome) → outcome (written cursor.old w) b ≡ o → gives result cursor.new b ≡ wrote o }
 {
-    let fault = cursor_fault(len, cursor);
-    if !fault.is_done() {
-        return fault.number();
+    match w {
+        Ok(at) => {
+            *cursor = at;
+            0
+        }
+        Err(error) => u8::from(error),
     }
-    Answer::WrongCall.number()
-}
-
-// Leaves the cursor in its place, and gives the answer's number.
-fn answered(cursor: &mut usize, w: Written) -> u8
-    ensures { (b : List ℕ) → gives result cursor.new b ≡ keeps b w }
-{
-    *cursor = w.at;
-    let answer = w.answer;
-    answer.number()
 }
 
 // Writes a string at the cursor.
@@ -196,16 +188,24 @@ fn put_display<I: PrimitiveInteger>(buf: &mut [u8], cursor: &mut usize, x: I) ->
     answered(cursor, w)
 }
 
-// Writes an integer at the cursor, in the form that the flags say.
+// Writes an integer at the cursor, in the form that the flags say: 8 for flags that are no number
+// below 12, after 9.
 fn put_debug<I: PrimitiveInteger>(buf: &mut [u8], cursor: &mut usize, x: I, flags: u64) -> u8
     ensures { gives result cursor.new buf.new
         ≡ writes_by flags buf.old cursor.old (integer debug I.BITS (I.value x)) }
 {
-    if flags >= 12 {
-        return no_flags(buf.len(), *cursor);
+    match FormattingFlags::try_from(flags) {
+        Ok(flags) => answered(cursor, write_debug(buf, *cursor, x, flags)),
+        Err(_) => answered(cursor, no_flags(buf.len(), *cursor)),
     }
-    let w = write_debug(buf, *cursor, x, flags_of(flags));
-    answered(cursor, w)
+}
+
+// What flags that are no number below 12 are refused with: 9 where the cursor is past a buffer of len bytes, else 8.
+fn no_flags(len: usize, cursor: usize) -> Result<usize, Error>
+    ensures { (b : List ℕ) → length b ≡ len → wrote (outcome (written cursor result) b) ≡ wrong_flags (writing cursor) b }
+{
+    cursor_fault(len, cursor)?;
+    Err(Error::WrongCall)
 }
 
 // Writes a u8 at the cursor, in decimal.

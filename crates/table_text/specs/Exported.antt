@@ -1,8 +1,7 @@
 -- A run whose flags are a number, as a sender passes them (docs/DECISIONS.md, 'For senders, and the comparison').
-use Rattle.std.specs.Prelude.{cond, List, [], ℕ}
-use Rattle.std.proofs.Math.Option.{Option}
-use Rattle.error.specs.declared.Answer.TheVariants.{Done, WrongCall}
-use Rattle.error.specs.Answer.{number_of}
+use Rattle.std.specs.Prelude.{cond, List, [], ℕ, Option}
+use Rattle.error.specs.declared.Error.TheVariants.{WrongCall}
+use Rattle.error.specs.Answer.{done, number_of}
 use Rattle.formatting.specs.FlagsAsNumber.{are_flags, flags_of}
 use Rattle.calls.specs.declared.Settings.{Settings}
 use Rattle.calls.specs.Call.{Call, hold}
@@ -12,7 +11,7 @@ use Rattle.run.specs.Played.{run_or, Played, ended}
 
 -- 'For senders': 12 and above are no flags: 8
 abbrev pub flags_fault : ℕ → ℕ
-flags_fault n = cond (are_flags n) (number_of Done) (number_of WrongCall)
+flags_fault n = cond (are_flags n) (done) (number_of WrongCall)
 
 -- 'For senders': and then nothing is played
 abbrev pub calls_by : ℕ → List (Option Call) → List (Option Call)

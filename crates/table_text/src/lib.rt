@@ -5,39 +5,38 @@
 // nothing.
 #![tactic(auto)]
 
-ghost use Rattle.std.specs.Prelude.{◌≡◌, [], ◌<◌};
+ghost use Rattle.std.specs.Prelude.{◌≡◌, [], ◌<◌, Some};
 ghost use Rattle.error.specs.Answer.{number_of};
 ghost use Rattle.agreement.specs.Untouched.{OnlyBetween};
 ghost use Rattle.calls.specs.Model.{counting, writing};
 ghost use Rattle.encoded_call.specs.Encoding.{decode};
-ghost use Rattle.run.specs.Played.{end_counted, end_written, stored, CountAgrees, WriteAgrees, WritesAsCounted};
+ghost use Rattle.run.specs.Played.{first_number, end_counted, end_written, stored, CountAgrees, WriteAgrees, WritesAsCounted};
 ghost use Rattle.table_text.specs.Exported.{settings_by, count_end, count_answers, write_end, write_answers};
 
 use calls::Settings;
-use error::Answer;
+use error::{Error, answer_number};
 use formatting::FormattingFlags;
-use run::{Ran, count_run_each, write_run_each};
+use run::{Ran, Refusal, count_run_each, write_run_each};
 
 // The end of a run of which nothing is played.
-fn unplayed(answer: Answer, number: usize) -> Ran
-    ensures { result ≡ record { first = number_of answer; number = number; place = 0; entries = 0 } }
+fn unplayed(error: Error, number: usize) -> Ran
+    ensures { result ≡ record { first = Some (record { error = error; place = 0 }); number = number; entries = 0 } }
 {
     Ran {
-        first: answer.number(),
+        first: Some(Refusal { error, place: 0 }),
         number,
-        place: 0,
         entries: 0,
     }
 }
 
 // A run counted, with each call's answer as far as there is room.
 fn count(flags: u64, calls: &[u64], text: &[u8], answers: &mut [u8]) -> Ran
-    ensures result_value { end_counted result ≡ count_end flags calls.now text.now }
+    ensures result_value { end_counted (decode calls.now text.now) result ≡ count_end flags calls.now text.now }
     ensures answers_after { answers.new ≡ stored answers.old (count_answers flags calls.now text.now) }
-    ensures count_agrees { flags < 12 → CountAgrees (settings_by flags) (decode calls.now text.now) result.first result.number }
+    ensures count_agrees { flags < 12 → CountAgrees (settings_by flags) (decode calls.now text.now) (first_number result.first) result.number }
 {
     let Ok(flags) = FormattingFlags::try_from(flags) else {
-        return unplayed(Answer::WrongCall, 0);
+        return unplayed(Error::WrongCall, 0);
     };
     count_run_each(Settings { flags }, calls, text, answers)
 }
@@ -51,19 +50,19 @@ fn write(
     text: &[u8],
     answers: &mut [u8],
 ) -> Ran
-    ensures buf_after { end_written result buf.new ≡ write_end flags buf.old at calls.now text.now }
+    ensures buf_after { end_written (decode calls.now text.now) result buf.new ≡ write_end flags buf.old at calls.now text.now }
     ensures answers_after { answers.new ≡ stored answers.old (write_answers flags buf.old at calls.now text.now) }
     ensures write_agrees { flags < 12 → WriteAgrees (settings_by flags) (decode calls.now text.now)
-        buf.old at result.first result.number buf.new }
+        buf.old at (first_number result.first) result.number buf.new }
     ensures writes_as_counted { WritesAsCounted (count_end flags calls.now text.now) (settings_by flags)
-        (decode calls.now text.now) buf.old at result.first result.number buf.new }
+        (decode calls.now text.now) buf.old at (first_number result.first) result.number buf.new }
     ensures only_between { OnlyBetween buf.old at buf.new result.number }
 {
     let Ok(flags) = FormattingFlags::try_from(flags) else {
         if buf.len() < at {
-            return unplayed(Answer::BadCursor, at);
+            return unplayed(Error::BadCursor, at);
         }
-        return unplayed(Answer::WrongCall, at);
+        return unplayed(Error::WrongCall, at);
     };
     write_run_each(Settings { flags }, buf, at, calls, text, answers)
 }
@@ -78,7 +77,7 @@ pub extern "C" fn table_text_count(flags: u64, calls: &[u64], text: &[u8], total
     let mut none = [0u8; 0];
     let r = count(flags, calls, text, &mut none);
     *total = r.number;
-    r.first
+    answer_number(r.answer())
 }
 
 // Writes a run from a cursor: the cursor at the end is left in cursor. 9 where it is past the buffer.
@@ -102,7 +101,7 @@ pub extern "C" fn table_text_write(
     let mut none = [0u8; 0];
     let r = write(flags, buf, *cursor, calls, text, &mut none);
     *cursor = r.number;
-    r.first
+    answer_number(r.answer())
 }
 
 // Counts a run: beside its total, how many entries it leaves open and each call's answer, as far as
@@ -125,7 +124,7 @@ pub extern "C" fn table_text_count_each(
     let r = count(flags, calls, text, answers);
     *total = r.number;
     *entries = r.entries;
-    r.first
+    answer_number(r.answer())
 }
 
 // Writes a run: beside its cursor, how many entries it leaves open and each call's answer, as far as
@@ -155,5 +154,5 @@ pub extern "C" fn table_text_write_each(
     let r = write(flags, buf, *cursor, calls, text, answers);
     *cursor = r.number;
     *entries = r.entries;
-    r.first
+    answer_number(r.answer())
 }

@@ -7,7 +7,8 @@ use mathlib.Core.Path.{◌≡◌, refl, sym, ap, subst, ◌∙◌}
 use Prim.Native.Nat.{ℕ, ◌≤◌, ◌<◌, ◌+◌, ◌-◌, ◌*◌, ◌/◌, ◌%◌}
 use native.Mathlib.Decide.{dec_lt, ℕ_discrete}
 use native.Mathlib.Omega.{arith}
-use borrow.Author.Tests.{lt-ltb, le-ltb, le-leb, lt-leb}
+use borrow.Author.Rules.{rules}
+use borrow.Author.Tests.{le-leb, lt-leb}
 use Rattle.utf8.specs.Utf8.{SectionsAgree, is_scalar, octets, encode, all_scalar, Octets, within, follow, continues, well_formed}
 use Rattle.utf8.proofs.Grammar.{First, one, two, three, three-E0, three-ED, four, four-F0, four-F4, Said, nothing, first, said, follows, inside, broken}
 
@@ -26,17 +27,8 @@ pub append : (s t : List ℕ) → well_formed s ≡ true → well_formed (s ++ t
 append s t e = append-from s t (some []) e
 
 -- the character numbers are a range with a gap
-pub is_scalar_lem : (c : ℕ) → c ≤ 0x10FFFF → (c < 0xE000 → c < 0xD800) → is_scalar c ≡ true
-is_scalar_lem c h k =
-    dite (dec_lt c 0xE000)
-    (λ l. rw (lt-ltb c 0xD800 (k l)))
-    (λ l. rw (le-ltb c 0xD800 (omega arith), le-leb 0xE000 c (omega arith), le-leb c 0x10FFFF h))
-
 pub scalar_range : (c : ℕ) → is_scalar c ≡ true → (c ≤ 0x10FFFF) × (c < 0xE000 → c < 0xD800)
-scalar_range c e =
-    dite (dec_lt c 0xD800)
-    (λ h. omega arith)
-    (λ h. let p = inside 0xE000 0x10FFFF c (rw (le-ltb c 0xD800 (omega arith)) at e) in omega arith)
+scalar_range c e = search rules
 
 -- octets, each in its range
 pub data Each : List Octets → List ℕ → Type 0 where
@@ -53,15 +45,12 @@ IsTail b = (0x80 ≤ b) × (b ≤ 0xBF)
 
 number-1 : (a : ℕ) → a ≤ 0x7F → Number (a ∷ [])
 unfolding octets
-number-1 a h = (a, is_scalar_lem a (omega arith) (omega arith), rw (le-leb a 0x7F h))
+number-1 a h = (a, search rules, search rules)
 
 number-2 : (a b : ℕ) → (0xC2 ≤ a) × (a ≤ 0xDF) × IsTail b → Number (a ∷ b ∷ [])
 unfolding octets
 number-2 a b h =
-    let c = (a - 0xC0) * 64 + (b - 0x80) in
-    let p : 0xC0 + c / 64 ≡ a = omega arith in
-    let q : 0x80 + c % 64 ≡ b = omega arith in
-    (c, is_scalar_lem c (omega arith) (omega arith), rw (lt-leb c 0x7F (omega arith), le-leb c 0x7FF (omega arith), p, q))
+    ((a - 0xC0) * 64 + (b - 0x80), search rules, search rules)
 
 module _ (a b d : ℕ) where
   abbrev three-octets : ℕ
@@ -70,11 +59,7 @@ module _ (a b d : ℕ) where
   number-3 : (0xE0 ≤ a) × (a ≤ 0xEF) × IsTail b × IsTail d × (0x800 ≤ three-octets) × (three-octets < 0xE000 → three-octets < 0xD800) → Number (a ∷ b ∷ d ∷ [])
   unfolding octets
   number-3 h =
-      let c = three-octets in
-      let p : 0xE0 + c / 4096 ≡ a = omega arith in
-      let q : 0x80 + c / 64 % 64 ≡ b = omega arith in
-      let r : 0x80 + c % 64 ≡ d = omega arith in
-      (c, is_scalar_lem c (omega arith) h.5, rw (lt-leb c 0x7F (omega arith), lt-leb c 0x7FF (omega arith), le-leb c 0xFFFF (omega arith), p, q, r))
+      (three-octets, search rules, search rules)
 
 module _ (a b d f : ℕ) where
   abbrev four-octets : ℕ
@@ -83,12 +68,7 @@ module _ (a b d f : ℕ) where
   number-4 : (0xF0 ≤ a) × IsTail b × IsTail d × IsTail f × (0x10000 ≤ four-octets) × (four-octets ≤ 0x10FFFF) → Number (a ∷ b ∷ d ∷ f ∷ [])
   unfolding octets
   number-4 h =
-      let c = four-octets in
-      let p : 0xF0 + c / 262144 ≡ a = omega arith in
-      let q : 0x80 + c / 4096 % 64 ≡ b = omega arith in
-      let r : 0x80 + c / 64 % 64 ≡ d = omega arith in
-      let s : 0x80 + c % 64 ≡ f = omega arith in
-      (c, is_scalar_lem c (omega arith) (omega arith), rw (lt-leb c 0x7F (omega arith), lt-leb c 0x7FF (omega arith), lt-leb c 0xFFFF (omega arith), p, q, r, s))
+      (four-octets, search rules, search rules)
 
 -- a character of section 4 is the octets of a character number
 pub decode : {a : ℕ} {rs : List Octets} {bs : List ℕ} → First a rs → Each rs bs → Number (a ∷ bs)
@@ -129,9 +109,9 @@ unfolding octets
 octets_well_formed c e =
     let s = scalar_range c e in
     dite (dec_lt c 0x80) (λ h. rw (le-leb c 0x7F (omega arith)) (character (one (omega arith)) end))
-    (λ h. dite (dec_lt c 0x800) (λ k. rw (lt-leb c 0x7F (omega arith), le-leb c 0x7FF (omega arith)) (character (two (omega arith)) (next (omega arith) end)))
-    (λ k. dite (dec_lt c 0x10000) (λ l. rw (lt-leb c 0x7F (omega arith), lt-leb c 0x7FF (omega arith), le-leb c 0xFFFF (omega arith)) (well_formed-3 c (omega arith) s.1))
-    (λ l. rw (lt-leb c 0x7F (omega arith), lt-leb c 0x7FF (omega arith), lt-leb c 0xFFFF (omega arith)) (well_formed-4 c (omega arith)))))
+    (λ h. dite (dec_lt c 0x800) (λ k. simp (lt-leb c 0x7F (omega arith), le-leb c 0x7FF (omega arith)) (character (two (omega arith)) (next (omega arith) end)))
+    (λ k. dite (dec_lt c 0x10000) (λ l. simp (lt-leb c 0x7F (omega arith), lt-leb c 0x7FF (omega arith), le-leb c 0xFFFF (omega arith)) (well_formed-3 c (omega arith) s.1))
+    (λ l. simp (lt-leb c 0x7F (omega arith), lt-leb c 0x7FF (omega arith), lt-leb c 0xFFFF (omega arith)) (well_formed-4 c (omega arith)))))
 
 pub octets_continue : (c : ℕ) (s : List ℕ) → is_scalar c ≡ true → well_formed (octets c ++ s) ≡ well_formed s
 octets_continue c s e = append (octets c) s (octets_well_formed c e)

@@ -1,111 +1,136 @@
 -- A value judged, then emitted: the fault that it meets, or its text placed or counted; and the parts of its length.
 use mathlib.Core.Bool.{Bool, true, false, cond}
-use mathlib.Core.Option.{none, some}
-use mathlib.Core.Path.{◌≡◌, refl, sym, ap, ◌∙◌}
+use Rattle.std.proofs.Common.{Option, Some, None, Ok, Err, nat_lt, ◌^◌}
+use mathlib.Core.Path.{◌≡◌, refl, sym, ap}
 use mathlib.Core.List.{List, [], ◌∷◌, ◌++◌}
-use Prim.Native.Nat.{ℕ, zero, suc, ◌+◌, ◌-◌}
+use Prim.Native.Nat.{ℕ, ◌-◌}
 use native.Mathlib.Omega.{arith}
 use lib.Dec.{ltb}
 use lib.IntN.{ℤ, pos}
 use lib.ListN.{length}
 use lib.Seq.{length-slice}
-use borrow.Author.Tests.{lt-ltb}
-use Rattle.error.specs.declared.Answer.{Answer}
-use Rattle.error.specs.declared.Answer.TheVariants.{Done, NotEnoughSpace, NotAscii, NotOnCharBoundary, NotUtf8, NotAChar, CountTooLarge, TooDeep, WrongCall, BadCursor}
-use Rattle.error.specs.Answer.{number_of, answer_of, is_done}
+use Rattle.error.specs.declared.Error.TheVariants.{NotAChar, CountTooLarge, BadCursor}
+use Rattle.error.specs.declared.Error.{Error}
+use Rattle.error.specs.Answer.{Answer, number_of, answer_of, answer_number}
 use Rattle.formatting.specs.declared.flags.FormattingFlags.{FormattingFlags}
 use Rattle.formatting.specs.declared.flags.NumberFormatting.{NumberFormatting}
 use Rattle.formatting.specs.declared.flags.NumberFormatting.TheVariants.{Decimal, Hexadecimal, Binary}
-use Rattle.formatting.specs.Escape.{quoted}
+use Rattle.utf8.specs.Utf8.{is_scalar}
+use Rattle.char_encoding.specs.Char.{unless_no_char}
+use Rattle.pwrapper.specs.QuotedCount.{count_of}
 use Rattle.utils.specs.declared.Range.{Range}
 use Rattle.utils.specs.Text.{saturated, part}
-use Rattle.pwrapper.specs.declared.quoted.DebugLen.{DebugLen}
 use Rattle.pwrapper.specs.Number.{decimal, display_text, twos_complement, debug_in, debug_parts}
-use Rattle.pwrapper.specs.QuotedCount.{count_of}
-use Rattle.str_writer.specs.Value.{Form, display, debug, Value, integer, text_of, input_fault, cut_fault}
-use Rattle.str_writer.specs.Write.{Outcome, placed, unless}
+use Rattle.str_writer.specs.Value.{Form, display, debug, Value, integer, char, text_of, input_fault, cut_fault}
+use Rattle.str_writer.specs.Write.{Written, Outcome, outcome, placed, unless}
 use Rattle.str_writer.specs.Write.{put as put_text}
+use Rattle.char_encoding.proofs.Laws.{told}
+use Rattle.str_writer.proofs.Values.{char_fine}
 use Rattle.pwrapper.proofs.Ranges.{clamped_end}
-use Rattle.calls.specs.Call.{fault_number}
-use Rattle.calls.specs.Model.{Mode, counting, writing, PieceOutcome, to, most, put_in, put, wrote, beyond}
+use Rattle.error.specs.Answer.{fault_number}
+use Rattle.calls.specs.Model.{Mode, counting, writing, to, wrote, put_in, beyond}
 use Rattle.writer_backend.specs.declared.pieces.WriterBackend.{WriterBackend}
-use Rattle.quoted_writes.proofs.Quoting.{count-above}
 use Rattle.value_writes.specs.declared.Integer.{Integer}
 use Rattle.value_writes.specs.declared.Integer.TheVariants.{Unsigned, Signed}
 use Rattle.value_writes.specs.declared.Parts.{Parts}
-use Rattle.writer_backend.specs.Output.{mode_of, output_of}
-use Rattle.writer_backend.proofs.Sequence.{hold-zero}
-use Rattle.value_writes.specs.Values.{bits_of, integer_of, heeded_by, text_of_parts, judged_in, value_out}
+use Rattle.writer_backend.specs.Output.{mode_of, is_counting, moved_by, added, output_of}
+use Rattle.writer_backend.proofs.Output.{counts, writes}
+use Rattle.writer_backend.proofs.Sequence.{error_number}
+use Rattle.value_writes.specs.Values.{bits_of, integer_of, heeded_by, text_of_parts, unless_fault, judged_in, emitted, value_judged, value_out}
 
--- the number of an answer by whether it is 0
-by_done : (a : Answer) → number_of a ≡ cond (is_done a) 0 (suc (number_of a - 1))
-by_done Done = refl
-by_done NotEnoughSpace = refl
-by_done NotAscii = refl
-by_done NotOnCharBoundary = refl
-by_done NotUtf8 = refl
-by_done NotAChar = refl
-by_done CountTooLarge = refl
-by_done TooDeep = refl
-by_done WrongCall = refl
-by_done BadCursor = refl
+-- the number of an answer to what is met
+pub met : {r : Answer} (x : Option Error) → r ≡ answer_of x → answer_number r ≡ fault_number x
+met None e = rw e
+met (Some x) e = rw e
 
--- what `!fault.is_done()` tells of a fault's number
-module _ (a : Answer) {d : Bool} (t : d ≡ is_done a) where
-  pub number-met : d ≡ false → number_of a ≡ suc (number_of a - 1)
-  number-met n = let q : is_done a ≡ false = sym t ∙ n in rw q at (by_done a)
+-- a character's length, or 5
+module _ (m : Form) (c n : ℕ) where
+  pub char_counted : (k : ℕ) → Ok k ≡ unless_no_char c n → (k ≡ n) × (0 ≡ fault_number (input_fault (char m c)))
+  char_counted k e = let t = told c k n e in (t.1, sym (ap fault_number (char_fine m c t.0)))
 
-  pub number-done : d ≡ true → number_of a ≡ 0
-  number-done n = let q : is_done a ≡ true = sym t ∙ n in rw q at (by_done a)
+  pub char_met : (e : Error) → Err e ≡ unless_no_char c n → number_of e ≡ fault_number (input_fault (char m c))
+  unfolding input_fault
+  char_met e p = go (is_scalar c) p
+    where
+      go : (b : Bool) → Err e ≡ cond b (Ok n) (Err NotAChar) → number_of e ≡ fault_number (cond b None (Some NotAChar))
+      go true q = cc
+      go false q = let w : e ≡ NotAChar = cc in rw w
 
--- a value that no range cuts is judged by its input
-pub judged_uncut : (m : Mode) (v : Value) (a : Answer) → a ≡ answer_of (input_fault v) → cut_fault v ≡ none → number_of a ≡ judged_in m v
-judged_uncut (counting n) v a e u = rw e (sym (hold-zero (fault_number (input_fault v))))
-judged_uncut (writing p) v a e u = rw (e, u) (sym (hold-zero (fault_number (input_fault v))))
+-- a quoted text's length
+pub quoted_counted : (n k : ℕ) → Ok k ≡ count_of n → k ≡ n
+quoted_counted n k e = go (nat_lt n (2 ^ 64)) e
+  where
+    go : (b : Bool) → Ok k ≡ cond b (Ok n) (Err CountTooLarge) → k ≡ n
+    go true q = cc
+    go false q = cc
 
--- a string: 4, then 3 in writing
-module _ (m : Mode) (v : Value) (a : Answer) (e : a ≡ answer_of (input_fault v)) {d : Bool} (t : d ≡ is_done a) where
-  pub judged-met : d ≡ false → number_of a ≡ judged_in m v
-  judged-met n = rw (← e, number-met a t n)
+-- a value is judged by its input, then, in writing, by its range
+module _ (m : Mode) (v : Value) where
+  pub judged_input : (e : Error) → number_of e ≡ fault_number (input_fault v) → number_of e ≡ judged_in m v
+  judged_input e p = rw (← p, error_number e)
 
-  pub judged-counting : d ≡ true → {n : ℕ} → m ≡ counting n → 0 ≡ judged_in m v
-  judged-counting n q = rw (← e, number-done a t n, q)
+  pub judged_counting : {n : ℕ} → m ≡ counting n → 0 ≡ fault_number (input_fault v) → 0 ≡ judged_in m v
+  judged_counting q p = rw (← p, q)
 
-  pub judged-writing : d ≡ true → {n : ℕ} → m ≡ writing n → {r : Answer} → r ≡ answer_of (cut_fault v) → number_of r ≡ judged_in m v
-  judged-writing n q h = rw (← e, number-done a t n, q, h)
+  pub judged_writing : {n : ℕ} → m ≡ writing n → 0 ≡ fault_number (input_fault v) → fault_number (cut_fault v) ≡ judged_in m v
+  judged_writing q p = rw (← p, q)
 
-module _ (m : WriterBackend) (b : List ℕ) (f : FormattingFlags) (v : Value) where
-  -- 9 before all
-  pub value_past : (a : ℕ) → a ≡ beyond (mode_of m) b → (a ≡ 0 → ⊥) → to (mode_of m) b a ≡ value_out m b f v
+judged_uncut : (m : Mode) (v : Value) → cut_fault v ≡ None → 0 ≡ fault_number (input_fault v) → 0 ≡ judged_in m v
+judged_uncut (counting n) v u p = rw (← p)
+judged_uncut (writing n) v u p = rw (← p, u)
+
+-- a text whose length is added, or that a single write puts
+module _ (w : WriterBackend) {r : Bool} (e : r ≡ is_counting (mode_of w)) where
+  pub emits_len : r ≡ true → (b t : List ℕ) {n : ℕ} → n ≡ length t → added (mode_of w) b n ≡ emitted (mode_of w) b t
+  emits_len q b t l = rw (counts w e q, l)
+
+  pub emits : r ≡ false → (b : List ℕ) {b' : List ℕ} (t : List ℕ) (x : Written) → outcome x b' ≡ put_text b w.number t → moved_by (mode_of w) b' x ≡ emitted (mode_of w) b t
+  emits q b t x p = rw (writes w e q) (ap wrote p)
+
+-- what a value answers: 9 before all, then a fault that it meets, else its text is emitted
+module _ (w : WriterBackend) (b : List ℕ) (f : FormattingFlags) (v : Value) where
+  pub value_past : (e : Error) → number_of e ≡ beyond (mode_of w) b → to (mode_of w) b (number_of e) ≡ value_out w b f v
   unfolding value_out
-  value_past zero e n = absurd (n refl)
-  value_past (suc a) e n = rw (← e)
+  value_past e p = rw (← p, error_number e)
 
-  -- a cursor within the bytes: a fault that is met is answered, else the text is counted or placed
-  module _ (h : beyond (mode_of m) b ≡ 0) (a : Answer) (e : number_of a ≡ judged_in (mode_of m) v) {d : Bool} (t : d ≡ is_done a) where
-    pub value-refused : d ≡ false → {r : PieceOutcome} → r ≡ to (mode_of m) b (number_of a) → r ≡ value_out m b f v
-    unfolding value_out
-    value-refused n p = p ∙ rw (h, ← e, number-met a t n)
+  pub value_within : 0 ≡ beyond (mode_of w) b → value_judged w b f v ≡ value_out w b f v
+  unfolding value_out put_text
+  value_within p = rw (← p) (ap (unless_fault (judged_in (mode_of w) v) (output_of w b)) (by_mode (mode_of w) p))
+    where
+      by_test : (c : Bool) (n : ℕ) (o : Outcome) → 0 ≡ fault_number (cond c (Some BadCursor) None) → wrote (unless (cond c (Some BadCursor) None) b n o) ≡ wrote o
+      by_test true n o z = absurd (omega (arith, z))
+      by_test false n o z = refl
 
-    emitted : d ≡ true → put (output_of m b) (text_of f v) ≡ value_out m b f v
-    unfolding value_out
-    emitted n = rw (h, ← e, number-done a t n)
+      by_mode : (m : Mode) → 0 ≡ beyond m b → emitted m b (text_of f v) ≡ put_in m b (text_of f v)
+      by_mode (counting n) z = refl
+      by_mode (writing n) z = by_test (ltb (length b) n) n (placed b n (text_of f v)) z
 
-    pub value-counted : d ≡ true → mode_of m ≡ counting m.number → {r : PieceOutcome} → r ≡ put_in (mode_of m) b (text_of f v) → r ≡ value_out m b f v
-    value-counted n q p = p ∙ (rw q) ∙ emitted n
+  pub judged-refused : (e : Error) → number_of e ≡ judged_in (mode_of w) v → to (mode_of w) b (number_of e) ≡ value_judged w b f v
+  judged-refused e p = rw (← p, error_number e)
 
-    pub value-placed : d ≡ true → mode_of m ≡ writing m.number → {o : Outcome} → o ≡ put_text b m.number (text_of f v) → wrote o ≡ value_out m b f v
-    unfolding put_text
-    value-placed n q p = ap wrote p ∙ by_test (ltb (length b) m.number) (placed b m.number (text_of f v)) (rw q at h) ∙ (rw q) ∙ emitted n
-      where
-        by_test : (t : Bool) (o : Outcome) → fault_number (cond t (some BadCursor) none) ≡ 0 → wrote (unless (cond t (some BadCursor) none) b m.number o) ≡ wrote o
-        by_test true o z = absurd (omega (arith, z))
-        by_test false o z = refl
+  pub judged-emitted : 0 ≡ judged_in (mode_of w) v → emitted (mode_of w) b (text_of f v) ≡ value_judged w b f v
+  judged-emitted p = rw (← p)
+
+  -- by its input alone, and where no range cuts it
+  pub input-refused : (e : Error) → number_of e ≡ fault_number (input_fault v) → to (mode_of w) b (number_of e) ≡ value_judged w b f v
+  input-refused e p = judged-refused e (judged_input (mode_of w) v e p)
+
+  pub uncut-emitted : cut_fault v ≡ None → 0 ≡ fault_number (input_fault v) → emitted (mode_of w) b (text_of f v) ≡ value_judged w b f v
+  uncut-emitted u p = judged-emitted (judged_uncut (mode_of w) v u p)
 
 -- what holds of every integer, of any width, holds of one by its type
-pub by_type : (P : Value → Type 0) (m : Form) → ((k : ℕ) (z : ℤ) → P (integer m k z)) → (x : Integer) → P (integer_of m x)
+by_type : (P : Value → Type 0) (m : Form) → ((k : ℕ) (z : ℤ) → P (integer m k z)) → (x : Integer) → P (integer_of m x)
 by_type P m h (Unsigned w n) = h (bits_of w) (pos n)
 by_type P m h (Signed w z) = h (bits_of w) z
+
+-- an integer meets nothing
+pub integer_input : (m : Form) (x : Integer) → input_fault (integer_of m x) ≡ None
+unfolding input_fault
+integer_input m x = by_type (λ v. input_fault v ≡ None) m (λ k z. refl) x
+
+pub integer_uncut : (m : Form) (x : Integer) → cut_fault (integer_of m x) ≡ None
+unfolding cut_fault
+integer_uncut m x = by_type (λ v. cut_fault v ≡ None) m (λ k z. refl) x
 
 -- an integer's text by the flags that it heeds: its display form is decimal, its debug form by the flags
 pub integer-text : (m : Form) (f : FormattingFlags) (k : ℕ) (z : ℤ) (p : Parts) → p.flags ≡ heeded_by m f → display_text z ≡ cond p.is_negative (45 ∷ []) [] ++ decimal p.n → twos_complement k z ≡ p.bits → text_of f (integer m k z) ≡ text_of_parts p
@@ -121,7 +146,3 @@ integer-text debug f k z p e t b = rw e (by_format f.num_fmt)
 -- the length of a clamped range
 pub clamped_length : (s : List ℕ) (r q : Range) → q ≡ saturated s r → q.end - q.start ≡ length (part s r)
 clamped_length s r q e = rw e (sym (length-slice (saturated s r).start (saturated s r).end s (clamped_end s r (saturated s r) refl)))
-
--- a quoted text whose count is 0 has more than 2^64 - 1 bytes
-pub quoted-refused : (t : List ℕ) (q : DebugLen) → q ≡ count_of (length (quoted t)) → (n : ℕ) (b : List ℕ) → q.len ≡ 0 → to (counting n) b 6 ≡ put_in (counting n) b (quoted t)
-quoted-refused t q e n b z = rw (lt-ltb most (n + length (quoted t)) (omega (arith, count-above t q e z)))

@@ -4,8 +4,10 @@ use Rattle.formatting.specs.declared.flags.FormattingFlags.{FormattingFlags}
 use Rattle.formatting.specs.declared.flags.NumberFormatting.TheVariants.{Decimal}
 use Rattle.pwrapper.specs.Number.{debug_parts}
 use Rattle.str_writer.specs.Value.{Form, display, debug, Value, integer, char, str, ascii, repeated, text_of, input_fault, cut_fault}
-use Rattle.calls.specs.Call.{fault_number, hold}
-use Rattle.calls.specs.Model.{Mode, Output, PieceOutcome, put, cut_in, beyond}
+use Rattle.str_writer.specs.Write.{put as put_text}
+use Rattle.error.specs.Answer.{fault_number}
+use Rattle.calls.specs.Call.{hold}
+use Rattle.calls.specs.Model.{Mode, counting, writing, Output, PieceOutcome, wrote, put_in, put, cut_in, beyond}
 use Rattle.writer_backend.specs.declared.pieces.WriterBackend.{WriterBackend}
 use Rattle.value_writes.specs.declared.Form as code
 use Rattle.value_writes.specs.declared.Form.TheVariants.{Display, Debug}
@@ -60,6 +62,15 @@ unless_fault (suc a) d p = record { answer = suc a; output = d }
 -- Document 01, 'The answer to a call', order: 2, 4 or 5, then 3 in writing
 abbrev pub judged_in : Mode → Value → ℕ
 judged_in m v = hold (fault_number (input_fault v)) (cut_in m (fault_number (cut_fault v)))
+
+-- Document 01, 'A nested record': a counting run adds the length of a text, a writing run writes it as a single write does
+abbrev pub emitted : Mode → List ℕ → List ℕ → PieceOutcome
+emitted (counting n) b t = put_in (counting n) b t
+emitted (writing c) b t = wrote (put_text b c t)
+
+-- Document 01, 'The answer to a call', order, but for 9: 2, 4 or 5, then 3 in writing, then 6 or 1
+abbrev pub value_judged : WriterBackend → List ℕ → FormattingFlags → Value → PieceOutcome
+value_judged w b f v = unless_fault (judged_in (mode_of w) v) (output_of w b) (emitted (mode_of w) b (text_of f v))
 
 -- Document 01, 'The answer to a call', order: 9, then 2, 4 or 5, then 3 in writing, then 6 or 1
 unfoldable pub value_out : WriterBackend → List ℕ → FormattingFlags → Value → PieceOutcome

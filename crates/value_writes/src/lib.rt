@@ -3,21 +3,19 @@
 
 mod integer_value;
 
-ghost use Rattle.std.specs.Prelude.{◌≡◌, true, List, ℕ, ◌+◌, ◌^◌, ℤ, length};
-ghost use Rattle.error.specs.declared.Answer.TheVariants.{Done};
-ghost use Rattle.error.specs.Answer.{number_of};
+ghost use Rattle.std.specs.Prelude.{◌≡◌, true, List, ℕ, ◌+◌, ◌%◌, ◌^◌, length, replicate};
+ghost use Rattle.error.specs.Answer.{answer_number, fault_number};
 ghost use Rattle.formatting.specs.declared.flags.FormattingFlags as Flags;
 ghost use Rattle.utils.specs.Text.{part};
+ghost use Rattle.char_encoding.specs.Char.{char_len};
 ghost use Rattle.pwrapper.specs.Number.{debug_parts, twos_complement};
-ghost use Rattle.str_writer.specs.Value.{integer, char, str, ascii, repeated, text_of, string_text, input_fault, cut_fault};
+ghost use Rattle.str_writer.specs.Value.{char, str, ascii, text_of, string_text, input_fault, cut_fault};
 ghost use Rattle.str_writer.specs.Value.{Form as ValueForm};
-ghost use Rattle.calls.specs.Call.{fault_number};
-ghost use Rattle.calls.specs.Model.{put_in, beyond};
 ghost use Rattle.writer_backend.specs.Output.{mode_of, is_counting, put_out};
-ghost use Rattle.value_writes.specs.Values.{form_of, bits_of, heeded_by, integer_of, text_of_parts, value_of, judged_in, value_out};
+ghost use Rattle.value_writes.specs.Values.{form_of, bits_of, heeded_by, integer_of, text_of_parts, value_of, judged_in, emitted, value_judged, value_out};
 
 use char_encoding::{char_debug_len, char_display_len};
-use error::Answer;
+use error::Error;
 use formatting::{FormattingFlags, NumberFormatting};
 pub use integer_value::IntegerValue;
 use integer_writes::write_debug_parts;
@@ -27,7 +25,7 @@ use str_writer::{
     ascii_fault, char_fault, put_char_debug, put_part, range_fault, str_fault, write_ascii_repeated,
 };
 use utils::{Range, saturate_range};
-use writer_backend::{WriterBackend, Wrote, add_len, answered, from_written, past};
+use writer_backend::WriterBackend;
 
 #[derive(Clone, Copy)]
 pub enum Form {
@@ -72,54 +70,47 @@ struct Parts {
 }
 
 // The 2, 4 or 5 that a value meets.
-pub fn value_fault(v: PVariant, s: &[u8]) -> u8
-    ensures { result ≡ fault_number (input_fault (value_of v s.now)) }
+pub fn value_fault(v: PVariant, s: &[u8]) -> Result<(), Error>
+    ensures { answer_number result ≡ fault_number (input_fault (value_of v s.now)) }
 {
     match v {
-        PVariant::Int(_, _) => Answer::Done.number(),
-        PVariant::Char(_, c) => char_fault(c).number(),
-        PVariant::Str(_, _) => str_fault(s).number(),
-        PVariant::Ascii(_, _) => ascii_fault(s).number(),
-        PVariant::Repeated(_, _) => Answer::Done.number(),
+        PVariant::Int(_, _) | PVariant::Repeated(_, _) => Ok(()),
+        PVariant::Char(_, c) => char_fault(c),
+        PVariant::Str(_, _) => str_fault(s),
+        PVariant::Ascii(_, _) => ascii_fault(s),
     }
 }
 
 // The 3 that a value meets.
-pub fn cut_fault(v: PVariant, s: &[u8]) -> u8
-    ensures { result ≡ fault_number (cut_fault (value_of v s.now)) }
+pub fn cut_fault(v: PVariant, s: &[u8]) -> Result<(), Error>
+    ensures { answer_number result ≡ fault_number (cut_fault (value_of v s.now)) }
 {
     match v {
-        PVariant::Int(_, _) => Answer::Done.number(),
-        PVariant::Char(_, _) => Answer::Done.number(),
-        PVariant::Str(_, range) => range_fault(s, range).number(),
-        PVariant::Ascii(_, _) => Answer::Done.number(),
-        PVariant::Repeated(_, _) => Answer::Done.number(),
+        PVariant::Str(_, range) => range_fault(s, range),
+        PVariant::Int(_, _)
+        | PVariant::Char(_, _)
+        | PVariant::Ascii(_, _)
+        | PVariant::Repeated(_, _) => Ok(()),
     }
 }
 
 // Writes or counts a value, tested in the order 9, then 2, 4 or 5, then 3 in writing, then 6 or 1.
 pub fn put_value(
-    m: WriterBackend,
-    flags: FormattingFlags,
+    writer: &mut WriterBackend,
     buf: &mut [u8],
+    flags: FormattingFlags,
     v: PVariant,
     s: &[u8],
-) -> Wrote
-    ensures { put_out result buf.new ≡ value_out m buf.old flags (value_of v s.now) }
+) -> Result<(), Error>
+    ensures { put_out result writer.new buf.new ≡ value_out writer.old buf.old flags (value_of v s.now) }
 {
-    let fault = past(m, buf);
-    if fault != Answer::Done.number() {
-        return Wrote {
-            answer: fault,
-            mode: m,
-        };
-    }
+    writer.judge(buf)?;
     match v {
-        PVariant::Int(form, x) => put_integer(m, buf, parts_of(form, x, flags)),
-        PVariant::Char(form, c) => put_char(m, buf, form, c),
-        PVariant::Str(form, range) => put_str(m, buf, form, s, range),
-        PVariant::Ascii(form, range) => put_ascii(m, buf, form, s, range),
-        PVariant::Repeated(c, n) => put_repeated(m, buf, c, n),
+        PVariant::Int(form, x) => put_integer(writer, buf, parts_of(form, x, flags)),
+        PVariant::Char(form, c) => put_char(writer, buf, form, c),
+        PVariant::Str(form, range) => put_str(writer, buf, form, s, range),
+        PVariant::Ascii(form, range) => put_ascii(writer, buf, form, s, range),
+        PVariant::Repeated(c, n) => put_repeated(writer, buf, c, n),
     }
 }
 
@@ -127,12 +118,10 @@ pub fn put_value(
 fn flags_for(form: Form, flags: FormattingFlags) -> FormattingFlags
     ensures { result ≡ heeded_by (form_of form) flags }
 {
-    let hex_fmt = flags.hex_fmt;
     match form {
         Form::Display => FormattingFlags {
             num_fmt: NumberFormatting::Decimal,
-            hex_fmt,
-            is_alternate: flags.is_alternate,
+            ..flags
         },
         Form::Debug => flags,
     }
@@ -170,7 +159,8 @@ pub fn greatest(width: Width) -> u64
     }
 }
 
-// The two's complement at a width.
+// The two's complement at a width, by the sum that document 01 has: a cast would take the last bits of
+// a number that does not fit the width, which has another text.
 fn bits_at(width: Width, x: i64) -> u64
     ensures { result ≡ twos_complement (bits_of width) x }
 {
@@ -183,135 +173,137 @@ fn bits_at(width: Width, x: i64) -> u64
 
 // An integer counted or written. Its functions have one call site each: the compiler lays them into
 // the run's loop.
-fn put_integer(m: WriterBackend, buf: &mut [u8], p: Parts) -> Wrote
-    ensures { (f : Flags.FormattingFlags) (form : ValueForm) (k : ℕ) (z : ℤ) → beyond (mode_of m) buf.old ≡ number_of Done →
-        text_of f (integer form k z) ≡ text_of_parts p → put_out result buf.new ≡ value_out m buf.old f (integer form k z) }
+fn put_integer(writer: &mut WriterBackend, buf: &mut [u8], p: Parts) -> Result<(), Error>
+    ensures { put_out result writer.new buf.new ≡ emitted (mode_of writer.old) buf.old (text_of_parts p) }
 {
-    let flags = p.flags;
-    if m.is_counting() {
-        return add_len(m, debug_len(p.is_negative, p.n, p.bits, flags));
+    let Parts {
+        flags,
+        is_negative,
+        n,
+        bits,
+    } = p;
+    if writer.is_counting() {
+        return writer.add_len(debug_len(is_negative, n, bits, flags));
     }
-    from_written(
-        m,
-        write_debug_parts(buf, m.number, p.is_negative, p.n, p.bits, flags),
-    )
+    let at = writer.number;
+    writer.advance(write_debug_parts(buf, at, is_negative, n, bits, flags))
 }
 
 fn debug_len(is_negative: bool, n: u64, bits: u64, flags: FormattingFlags) -> usize
     ensures { result ≡ length (debug_parts flags.num_fmt flags is_negative n bits) }
 {
-    let num_fmt = flags.num_fmt;
-    match num_fmt {
+    match flags.num_fmt {
         NumberFormatting::Decimal => decimal_len(is_negative, n),
         NumberFormatting::Hexadecimal => hexadecimal_len(bits, flags),
         NumberFormatting::Binary => binary_len(bits, flags),
     }
 }
 
-fn put_char(m: WriterBackend, buf: &mut [u8], form: Form, c: u32) -> Wrote
-    ensures { (f : Flags.FormattingFlags) → beyond (mode_of m) buf.old ≡ number_of Done →
-        put_out result buf.new ≡ value_out m buf.old f (char (form_of form) c) }
+fn put_char(writer: &mut WriterBackend, buf: &mut [u8], form: Form, c: u32) -> Result<(), Error>
+    ensures { (f : Flags.FormattingFlags) → put_out result writer.new buf.new ≡ value_judged writer.old buf.old f (char (form_of form) c) }
 {
-    let fault = char_fault(c);
-    if !fault.is_done() {
-        return answered(m, fault);
+    if writer.is_counting() {
+        return writer.add_len(char_len(form, c)?);
     }
-    let at = m.number;
-    if m.is_counting() {
-        return add_len(m, char_len(form, c));
-    }
+    char_fault(c)?;
+    let at = writer.number;
     match form {
-        Form::Display => from_written(m, str_writer::put_char(buf, at, c)),
-        Form::Debug => from_written(m, put_char_debug(buf, at, c)),
+        Form::Display => writer.advance(str_writer::put_char(buf, at, c)),
+        Form::Debug => writer.advance(put_char_debug(buf, at, c)),
     }
 }
 
-fn char_len(form: Form, c: u32) -> usize
-    ensures { (f : Flags.FormattingFlags) → result ≡ length (text_of f (char (form_of form) c)) }
+fn char_len(form: Form, c: u32) -> Result<usize, Error>
+    ensures { (f : Flags.FormattingFlags) → result ≡ char_len c (text_of f (char (form_of form) c)) }
 {
     match form {
-        Form::Display => char_display_len(c).len,
-        Form::Debug => char_debug_len(c).len,
+        Form::Display => char_display_len(c),
+        Form::Debug => char_debug_len(c),
     }
 }
 
 // 4, then 3 in writing.
-fn judge_str(m: WriterBackend, s: &[u8], range: Range) -> Answer
-    ensures { (form : ValueForm) → number_of result ≡ judged_in (mode_of m) (str form s.now range) }
+fn judge_str(writer: WriterBackend, s: &[u8], range: Range) -> Result<(), Error>
+    ensures { (form : ValueForm) → answer_number result ≡ judged_in (mode_of writer) (str form s.now range) }
 {
-    let fault = str_fault(s);
-    if !fault.is_done() {
-        return fault;
-    }
-    if m.is_counting() {
-        return Answer::Done;
+    str_fault(s)?;
+    if writer.is_counting() {
+        return Ok(());
     }
     range_fault(s, range)
 }
 
-fn put_str(m: WriterBackend, buf: &mut [u8], form: Form, s: &[u8], range: Range) -> Wrote
-    ensures { (f : Flags.FormattingFlags) → beyond (mode_of m) buf.old ≡ number_of Done →
-        put_out result buf.new ≡ value_out m buf.old f (str (form_of form) s.now range) }
+fn put_str(
+    writer: &mut WriterBackend,
+    buf: &mut [u8],
+    form: Form,
+    s: &[u8],
+    range: Range,
+) -> Result<(), Error>
+    ensures { (f : Flags.FormattingFlags) → put_out result writer.new buf.new ≡ value_judged writer.old buf.old f (str (form_of form) s.now range) }
 {
-    let fault = judge_str(m, s, range);
-    if !fault.is_done() {
-        return answered(m, fault);
-    }
-    let at = m.number;
-    if m.is_counting() {
-        return add_string(m, form, s, range);
-    }
-    match form {
-        Form::Display => from_written(m, put_part(buf, at, s, range)),
-        Form::Debug => from_written(m, put_quoted_part(buf, at, s, range)),
-    }
+    judge_str(*writer, s, range)?;
+    put_string(writer, buf, form, s, range)
 }
 
-fn put_ascii(m: WriterBackend, buf: &mut [u8], form: Form, s: &[u8], range: Range) -> Wrote
-    ensures { (f : Flags.FormattingFlags) → beyond (mode_of m) buf.old ≡ number_of Done →
-        put_out result buf.new ≡ value_out m buf.old f (ascii (form_of form) s.now range) }
+fn put_ascii(
+    writer: &mut WriterBackend,
+    buf: &mut [u8],
+    form: Form,
+    s: &[u8],
+    range: Range,
+) -> Result<(), Error>
+    ensures { (f : Flags.FormattingFlags) → put_out result writer.new buf.new ≡ value_judged writer.old buf.old f (ascii (form_of form) s.now range) }
 {
-    let fault = ascii_fault(s);
-    if !fault.is_done() {
-        return answered(m, fault);
+    ascii_fault(s)?;
+    put_string(writer, buf, form, s, range)
+}
+
+// A clamped range that was judged, bare or quoted, counted or written. Each of its two callers has it
+// as a part of its own: a run's loop then has no call.
+#[inline(always)]
+fn put_string(
+    writer: &mut WriterBackend,
+    buf: &mut [u8],
+    form: Form,
+    s: &[u8],
+    range: Range,
+) -> Result<(), Error>
+    ensures { put_out result writer.new buf.new ≡ emitted (mode_of writer.old) buf.old (string_text (form_of form) (part s.now range)) }
+{
+    if writer.is_counting() {
+        return add_string(writer, form, s, range);
     }
-    let at = m.number;
-    if m.is_counting() {
-        return add_string(m, form, s, range);
-    }
+    let at = writer.number;
     match form {
-        Form::Display => from_written(m, put_part(buf, at, s, range)),
-        Form::Debug => from_written(m, put_quoted_part(buf, at, s, range)),
+        Form::Display => writer.advance(put_part(buf, at, s, range)),
+        Form::Debug => writer.advance(put_quoted_part(buf, at, s, range)),
     }
 }
 
 // The length of a clamped range, bare or quoted, added to the total.
-fn add_string(m: WriterBackend, form: Form, s: &[u8], range: Range) -> Wrote
-    ensures { (b : List ℕ) → is_counting (mode_of m) ≡ true →
-        put_out result b ≡ put_in (mode_of m) b (string_text (form_of form) (part s.now range)) }
+fn add_string(writer: &mut WriterBackend, form: Form, s: &[u8], range: Range) -> Result<(), Error>
+    requires { is_counting (mode_of writer.old) ≡ true }
+    ensures { (b : List ℕ) → put_out result writer.new b ≡ emitted (mode_of writer.old) b (string_text (form_of form) (part s.now range)) }
 {
     match form {
         Form::Display => {
-            let clamped = saturate_range(s, range);
-            add_len(m, clamped.end - clamped.start)
+            let Range { start, end } = saturate_range(s, range);
+            writer.add_len(end - start)
         }
         Form::Debug => {
-            let quoted = compute_utf8_debug_len_in_range(s, range);
-            let len = quoted.len;
-            if len == 0 {
-                return answered(m, Answer::CountTooLarge);
-            }
-            add_len(m, len)
+            let len = compute_utf8_debug_len_in_range(s, range)?;
+            writer.add_len(len)
         }
     }
 }
 
-fn put_repeated(m: WriterBackend, buf: &mut [u8], c: u8, n: usize) -> Wrote
-    ensures { (f : Flags.FormattingFlags) → beyond (mode_of m) buf.old ≡ number_of Done →
-        put_out result buf.new ≡ value_out m buf.old f (repeated c n) }
+fn put_repeated(writer: &mut WriterBackend, buf: &mut [u8], c: u8, n: usize) -> Result<(), Error>
+    ensures { put_out result writer.new buf.new ≡ emitted (mode_of writer.old) buf.old (replicate n (c % 128)) }
 {
-    if m.is_counting() {
-        return add_len(m, n);
+    if writer.is_counting() {
+        return writer.add_len(n);
     }
-    from_written(m, write_ascii_repeated(buf, m.number, c, n))
+    let at = writer.number;
+    writer.advance(write_ascii_repeated(buf, at, c, n))
 }

@@ -1,20 +1,17 @@
 -- One piece: its length added to a total, or its text written at the cursor.
 use mathlib.Core.Bool.{Bool, true, false, false≢true}
-use mathlib.Core.Path.{◌≡◌, refl, sym, ◌∙◌}
+use mathlib.Core.Path.{◌≡◌, refl, sym, ap, ◌∙◌}
 use mathlib.Core.List.{List}
 use Prim.Native.Nat.{ℕ, zero, suc, ◌+◌, ◌%◌, ◌≤◌, ◌<◌}
 use native.Mathlib.Omega.{arith}
-use lib.Dec.{eqb}
 use lib.ListN.{length}
 use borrow.Author.Tests.{lt-ltb}
-use Rattle.error.specs.Answer.{number_of}
-use Rattle.calls.specs.Model.{Mode, number_in, to, counting, writing, put_in, put, wrote}
-use Rattle.str_writer.specs.declared.piece.Written.{Written}
-use Rattle.str_writer.specs.Write.{outcome, placed}
+use Rattle.calls.specs.Model.{to, counting, writing, put_in, put, wrote}
+use Rattle.str_writer.specs.Write.{Written, outcome, placed}
 use Rattle.str_writer.specs.Write.{put as put_text}
 use Rattle.str_writer.proofs.Outcomes.{put-placed}
 use Rattle.writer_backend.specs.declared.pieces.WriterBackend.{WriterBackend}
-use Rattle.writer_backend.specs.Output.{as_mode, mode_of, is_counting, with_number, added, output_of}
+use Rattle.writer_backend.specs.Output.{as_mode, mode_of, is_counting, moved_by, added, output_of}
 
 as_counting : (t n : ℕ) → is_counting (as_mode t n) ≡ true → as_mode t n ≡ counting n
 as_counting zero n e = absurd (false≢true e)
@@ -23,25 +20,6 @@ as_counting (suc t) n e = refl
 as_writing : (t n : ℕ) → is_counting (as_mode t n) ≡ false → as_mode t n ≡ writing n
 as_writing zero n e = refl
 as_writing (suc t) n e = absurd (false≢true (sym e))
-
--- at another number
-pub as_at : (t n x : ℕ) → as_mode t x ≡ with_number (as_mode t n) x
-as_at zero n x = refl
-as_at (suc t) n x = refl
-
-as_number : (t n : ℕ) → number_in (as_mode t n) ≡ n
-as_number zero n = refl
-as_number (suc t) n = refl
-
--- the number of the mode is that of the output
-pub number_in_lem : (w : WriterBackend) → number_in (mode_of w) ≡ w.number
-number_in_lem w = as_number (w.mode % 2) w.number
-
--- a remainder of 1 is counting
-pub by_remainder : (t n : ℕ) → t < 2 → eqb t 1 ≡ is_counting (as_mode t n)
-by_remainder zero n h = refl
-by_remainder (suc zero) n h = refl
-by_remainder (suc (suc t)) n h = absurd (omega (arith, h))
 
 -- the mode that `is_counting` tells
 module _ (w : WriterBackend) {r : Bool} (e : r ≡ is_counting (mode_of w)) where
@@ -55,13 +33,6 @@ module _ (w : WriterBackend) {r : Bool} (e : r ≡ is_counting (mode_of w)) wher
   pub adds : r ≡ true → (b t : List ℕ) {n : ℕ} → n ≡ length t → added (mode_of w) b n ≡ put_in (mode_of w) b t
   adds q b t l = rw (counts q, l)
 
-  -- the outcome of a single write, where a text is written
-  pub wrote_at : r ≡ false → (x : Written) (b : List ℕ) → to (with_number (mode_of w) x.at) b (number_of x.answer) ≡ wrote (outcome x b)
-  wrote_at q x b = rw (writes q)
-
-  pub counts-at : r ≡ true → {m : Mode} (x : ℕ) → m ≡ with_number (mode_of w) x → m ≡ counting x
-  counts-at t x q = q ∙ rw (counts t)
-
 module _ (w : WriterBackend) (b : List ℕ) (e : mode_of w ≡ writing w.number) (s : List ℕ) where
   -- a cursor past the bytes has no room
   pub put_past : length b < w.number → to (mode_of w) b 1 ≡ put (output_of w b) s
@@ -70,3 +41,10 @@ module _ (w : WriterBackend) (b : List ℕ) (e : mode_of w ≡ writing w.number)
 
   pub put-writes : w.number ≤ length b → wrote (put_text b w.number s) ≡ put (output_of w b) s
   put-writes h = rw (e, ← put-placed b w.number s h)
+
+-- a single write at a cursor within the bytes, as a piece
+pub written : (w : WriterBackend) {r : Bool} → r ≡ is_counting (mode_of w) → r ≡ false → (b : List ℕ) {b' : List ℕ} (t : List ℕ) (x : Written) → w.number ≤ length b → outcome x b' ≡ put_text b w.number t → moved_by (mode_of w) b' x ≡ put (output_of w b) t
+written w e q b {b'} t x h p =
+    let m = writes w e q in
+    let same : moved_by (mode_of w) b' x ≡ wrote (outcome x b') = rw m in
+    same ∙ ap wrote p ∙ put-writes w b m t h

@@ -6,6 +6,5 @@ mod pieces;
 mod record;
 mod words;
 
-pub use pieces::{WriterBackend, Wrote, add_len, answered, from_written, past, put, put_spaces};
-pub use record::{PlaceKind, close, is_name, place_fault, place_pieces, put_name};
-pub use words::Word;
+pub use pieces::WriterBackend;
+pub use record::{Builder, PlaceKind, is_name, place_fault};

@@ -1,15 +1,22 @@
 use Rattle.encoded_call.proofs.Texts.{text_past, text_long, text-within}
 use Rattle.encoded_call.proofs.call_at.Goals as goal
-use Rattle.encoded_call.proofs.call_at.Goals.{then-at-text+else-len-text, else-at-text}
+use Rattle.encoded_call.proofs.call_at.Goals.{then-text-at-via-then-text-at, then-text-at-via-else-text-at+then-text-at-2}
 
-pub returns-then-len-text : goal.returns-then-len-text
-returns-then-len-text c = let p = c.if-at-text.true in
-    let q = c.if-len-text.true in
-    rw (text-within, ← c.op_at-op.ensures) c.call.ensures
-
-pub returns : goal.returns
-returns c =
-    elim c.if-at-text.branch [
-      | then-at-text+else-len-text w ↦ let p = w.if-at-text.true in let q = w.if-len-text.false in rw text_long (c.no_call.ensures _)
-      | else-at-text w ↦ let p = w.if-at-text.false in rw text_past (c.no_call.ensures _)
+pub returns-then-text-at : goal.returns-then-text-at
+returns-then-text-at c =
+    elim c.then-text-at.branch [
+      | then-text-at-via-then-text-at w ↦ let p = w.if-text-at.true in rw text_past (c.no_call.ensures _)
+      | then-text-at-via-else-text-at+then-text-at-2 w ↦ let p = w.if-text-at.false in let q = w.if-text-at-2.true in rw text_long (c.no_call.ensures _)
     ]
+
+pub returns-in-Some : goal.returns-in-Some
+returns-in-Some c =
+    let p = c.if-text-at.false in
+    let q = c.if-text-at-2.false in
+    rw (text-within, ← c.op_at.ensures, c.in-Some.is) c.call.ensures
+
+pub returns-in-None : goal.returns-in-None
+returns-in-None c =
+    let p = c.if-text-at.false in
+    let q = c.if-text-at-2.false in
+    rw (text-within, ← c.op_at.ensures, c.in-None.is) (c.no_call-in-None.ensures _)

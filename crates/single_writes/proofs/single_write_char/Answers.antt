@@ -1,6 +1,4 @@
-use mathlib.Core.Path.{ap, ◌∙◌}
-use Rattle.calls.specs.Model.{wrote}
 use Rattle.single_writes.proofs.single_write_char.Goals as goal
 
 pub returns : goal.returns
-returns c = c.answered.ensures _ ∙ ap (λ o. wrote o) c.write_char-w.ensures
+returns c = c.answered.ensures _ _ c.write_char-w.ensures

@@ -1,4 +1,5 @@
 -- `utf8::after` meets its contract: an octet between characters begins one, and any other is in the range that had to follow or not.
+use borrow.Author.Rules.{rules}
 use native.Mathlib.Omega.{arith}
 use Rattle.utf8.specs.Utf8.{continues}
 use Rattle.utf8.proofs.Ranges.{passes, fails}
@@ -6,7 +7,7 @@ use Rattle.utf8.proofs.after.Goals as goal
 
 pub returns-then-count-eq0 : goal.returns-then-count-eq0
 unfolding continues
-returns-then-count-eq0 c = λ s. rw c.if-count-eq0.true (c.after_first.ensures s)
+returns-then-count-eq0 c = search rules
 
 pub returns-then-a-low : goal.returns-then-a-low
 returns-then-a-low c = let x = c.args in fails x.e.0 x.e.1 x.e.2 x.a (omega arith) (omega arith)

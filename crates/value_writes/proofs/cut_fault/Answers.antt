@@ -1,26 +1,13 @@
-use mathlib.Core.Path.{◌≡◌, ◌∙◌, ap}
-use Rattle.error.specs.Answer.{number_of}
+use mathlib.Core.Logic.{inl, inr}
+use mathlib.Core.Path.{refl}
 use Rattle.str_writer.specs.Value.{cut_fault}
-use Rattle.calls.specs.Call.{fault_number}
 use Rattle.value_writes.specs.Values.{form_of}
-use Rattle.value_writes.proofs.ValueLaws.{by_type}
+use Rattle.value_writes.proofs.ValueLaws.{integer_uncut}
 use Rattle.value_writes.proofs.cut_fault.Goals as goal
 
 pub returns-in-Int : goal.returns-in-Int
 unfolding cut_fault
-returns-in-Int c = rw c.in-Int.is (by_type (λ x. c.number.result ≡ fault_number (cut_fault x)) (form_of c.in-Int.field-0) (λ k z. c.number.ensures) c.in-Int.field-1)
-
-pub returns-in-Char : goal.returns-in-Char
-unfolding cut_fault
-returns-in-Char c = rw c.in-Char.is c.number-in-Char.ensures
-
-pub returns-in-Str : goal.returns-in-Str
-returns-in-Str c = rw c.in-Str.is (c.number-in-Str.ensures ∙ ap number_of (c.range_fault.ensures (form_of c.in-Str.field-0)))
-
-pub returns-in-Ascii : goal.returns-in-Ascii
-unfolding cut_fault
-returns-in-Ascii c = rw c.in-Ascii.is c.number-in-Ascii.ensures
-
-pub returns-in-Repeated : goal.returns-in-Repeated
-unfolding cut_fault
-returns-in-Repeated c = rw c.in-Repeated.is c.number-in-Repeated.ensures
+returns-in-Int c = elim c.in-Int.is [
+  | inl (m, x, e) ↦ rw (e, integer_uncut (form_of m) x)
+  | inr o ↦ elim o [ inl (m, n, e) ↦ rw e refl | inr o' ↦ elim o' [ inl (m, r, e) ↦ rw e refl | inr (k, n, e) ↦ rw e refl ] ]
+]

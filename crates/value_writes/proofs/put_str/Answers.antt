@@ -1,33 +1,16 @@
-use mathlib.Core.Path.{sym, ◌∙◌}
-use Rattle.str_writer.specs.Value.{str, display, debug, text_of}
-use Rattle.writer_backend.proofs.Output.{counts, writes, wrote_at}
+use mathlib.Core.Path.{◌∙◌}
+use Rattle.std.proofs.lemmas.Result.{err_from_is_err_and}
+use Rattle.str_writer.specs.Value.{str, text_of}
 use Rattle.value_writes.specs.Values.{form_of}
-use Rattle.value_writes.proofs.ValueLaws.{value-refused, value-counted, value-placed}
+use Rattle.value_writes.proofs.ValueLaws.{judged-refused, judged-emitted}
 use Rattle.value_writes.proofs.put_str.Goals as goal
 
-pub returns-then-not-is_done : goal.returns-then-not-is_done
-returns-then-not-is_done c f h = let a = c.args in
-    let x = c.judge_str-fault in
-    value-refused a.m a.buf.now f (str (form_of a.form) a.s.now a.range) h x.result (x.ensures (form_of a.form)) c.is_done.ensures c.if-not-is_done.true (c.answered.ensures a.buf.now)
+pub returns-in_err-judge_str : goal.returns-in_err-judge_str
+returns-in_err-judge_str c f = let a = c.args in
+    let p = err_from_is_err_and c.from_residual.result c.from_residual.ensures.1 in
+    rw (p.1, p.2) (judged-refused a.writer.now a.buf.now f (str (form_of a.form) a.s.now a.range) _ (c.in_err-judge_str.ensures (form_of a.form)))
 
-pub returns-then-is_counting : goal.returns-then-is_counting
+pub returns : goal.returns
 unfolding text_of
-returns-then-is_counting c f h = let a = c.args in
-    let x = c.judge_str-fault in
-    value-counted a.m a.buf.now f (str (form_of a.form) a.s.now a.range) h x.result (x.ensures (form_of a.form)) c.is_done.ensures c.if-not-is_done.false (counts a.m c.is_counting.ensures c.if-is_counting.true) (c.add_string.ensures a.buf.now (sym c.is_counting.ensures ∙ c.if-is_counting.true))
-
-pub returns-in-Display : goal.returns-in-Display
-unfolding text_of
-returns-in-Display c f h = let a = c.args in
-    let x = c.judge_str-fault in
-    rw c.in-Display.is (c.from_written.ensures _
-    ∙ wrote_at a.m c.is_counting.ensures c.if-is_counting.false c.put_part.result _
-    ∙ value-placed a.m a.buf.now f (str display a.s.now a.range) h x.result (x.ensures display) c.is_done.ensures c.if-not-is_done.false (writes a.m c.is_counting.ensures c.if-is_counting.false) c.put_part.ensures)
-
-pub returns-in-Debug : goal.returns-in-Debug
-unfolding text_of
-returns-in-Debug c f h = let a = c.args in
-    let x = c.judge_str-fault in
-    rw c.in-Debug.is (c.from_written-in-Debug.ensures _
-    ∙ wrote_at a.m c.is_counting.ensures c.if-is_counting.false c.put_quoted_part.result _
-    ∙ value-placed a.m a.buf.now f (str debug a.s.now a.range) h x.result (x.ensures debug) c.is_done.ensures c.if-not-is_done.false (writes a.m c.is_counting.ensures c.if-is_counting.false) c.put_quoted_part.ensures)
+returns c f = let a = c.args in
+    c.put_string.ensures ∙ judged-emitted a.writer.now a.buf.now f (str (form_of a.form) a.s.now a.range) (c.in_ok-judge_str.ensures (form_of a.form))

@@ -1,5 +1,7 @@
+use Rattle.std.proofs.lemmas.Grind.{common_steps}
+use Rattle.fields.specs.Decimal.{read_from}
 use Rattle.std.proofs.Common.{sym, ◌∙◌, arith}
-use Rattle.fields.proofs.Numbers.{no_digit, digit_next, digit_above, read-end}
+use Rattle.fields.proofs.Numbers.{no_digit, digit_next, digit_above}
 use Rattle.fields.proofs.decimal.digits.Goals as goal
 
 pub returns-then-not-is_ascii_digit : goal.returns-then-not-is_ascii_digit
@@ -27,4 +29,5 @@ loop-b-preserved c = (
 )
 
 pub returns : goal.returns
-returns c = read-end c.args.s.now c.loop-b.b-index c.loop-b.n c.args.most c.loop-b-test.false c.loop-b.invariant.0 ∙ c.loop-b.invariant.1
+unfolding read_from
+returns c = grind (arith, common_steps)

@@ -1,14 +1,17 @@
-use native.Mathlib.Omega.{arith}
-use borrow.Author.Rules.{rules}
+use Rattle.std.proofs.Common.{rules, ◌≤◌, length, arith}
 use Rattle.formatting.specs.Bytes.{bytes}
-use Rattle.fields.specs.Decimal.{cell}
-use Rattle.fields.proofs.Cells.{cell-short}
 use Rattle.sheet.specs.Sheet.{bad_text}
-use Rattle.sheet.proofs.Printing.{At, next, laid}
+use Rattle.sheet.proofs.Printing.{at_start, next-cell, cell-fits, last}
 use Rattle.sheet.proofs.print.lay_bad.Goals as goal
 
-pub returns : goal.returns
+pub returns-in_err-at-clause-out_after : goal.returns-in_err-at-clause-out_after
+returns-in_err-at-clause-out_after c = let b = c.args.out.now in
+    let q : 25 ≤ length b = c.requires in
+    cell-fits (at_start b 0 (omega arith)) c.args.line 44 (search rules) (omega arith) c.in_err-at.ensures
+
+pub returns-clause-out_after : goal.returns-clause-out_after
 unfolding bad_text
-returns c = let b = c.args.out.now in
-    let a : At b (cell c.args.line 44) 21 _ _ = record { whole = c.put_number-number.ensures; short = cell-short _ _ (search rules) } in
-    laid (next 4 (bytes "bad\n") _ _ a c.put-bad.ensures (omega arith) (omega arith)) (omega arith)
+returns-clause-out_after c = let b = c.args.out.now in
+    let q : 25 ≤ length b = c.requires in
+    let a₁ = next-cell (at_start b 0 (omega arith)) c.args.line 44 (search rules) (omega arith) c.in_ok-at.ensures in
+    last a₁ 4 (bytes "bad\n") (omega arith) (omega arith) c.put.result c.put.ensures

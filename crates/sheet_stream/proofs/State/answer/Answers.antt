@@ -1,6 +1,6 @@
 use Rattle.std.proofs.Common.{rules, arith, ◌≡◌, ◌∙◌, length}
 use lib.Seq.{length-take-le}
-use Rattle.sheet_stream.proofs.Laws.{answers-later, answers-last}
+use Rattle.sheet_stream.proofs.Laws.{goes-on, answers-later, answers-last}
 use Rattle.sheet_stream.proofs.State.answer.Goals.{After-answer_line-answered}
 use Rattle.sheet_stream.proofs.State.answer.Goals as goal
 
@@ -14,9 +14,9 @@ part_length c =
 pub returns-then-not-answered-clause-answers : goal.returns-then-not-answered-clause-answers
 returns-then-not-answered-clause-answers c =
     let a = c.answer_line-answered in
-    rw c.in-Later.is (answers-last _ _ _ _ _ _ a.result _ _ _ _ a.ensures.out_after a.ensures.l_len_bound (part_length (goal.at.returns-then-not-answered-clause-answers c).After-answer_line-answered) c.requires.1 (search rules))
+    rw (c.in-Later.is, ← goes-on c.args.at a.result.print c.unwrap_or.ensures) (answers-last _ _ _ _ _ _ a.result _ _ _ _ a.ensures.out_after a.ensures.l_len_bound (part_length (goal.at.returns-then-not-answered-clause-answers c).After-answer_line-answered) c.requires.1 (search rules))
 
 pub returns-else-not-answered-clause-answers : goal.returns-else-not-answered-clause-answers
 returns-else-not-answered-clause-answers c =
     let a = c.answer_line-answered in
-    rw c.in-Later.is (answers-later _ _ _ _ _ _ a.result _ _ _ _ a.ensures.out_after a.ensures.l_len_bound (part_length (goal.at.returns-else-not-answered-clause-answers c).After-answer_line-answered) c.requires.1 (search rules))
+    rw (c.in-Later.is, ← goes-on c.args.at a.result.print c.unwrap_or.ensures) (answers-later _ _ _ _ _ _ a.result _ _ _ _ a.ensures.out_after a.ensures.l_len_bound (part_length (goal.at.returns-else-not-answered-clause-answers c).After-answer_line-answered) c.requires.1 (search rules))

@@ -1,12 +1,9 @@
 use Rattle.std.proofs.Common.{rules}
-use Rattle.sheet_stream.proofs.Going.{going-begins, turn-steps, turn-writes, turn-ends, turn-reads}
+use Rattle.sheet_stream.proofs.Going.{going-begins, turn-writes, turn-ends, turn-reads}
 use Rattle.sheet_stream.proofs.program.play.Goals as goal
 
 pub loop-init : goal.loop-init
 loop-init g c = going-begins _ _ _ (c.new-stream.ensures.begins _ _ _)
-
-pub loop-preserved-then-not-is_due : goal.loop-preserved-then-not-is_due
-loop-preserved-then-not-is_due g c = turn-steps _ _ _ _ _ _ _ _ _ _ _ _ (c.step-waits.ensures.stepped (search rules)) c.loop.invariant
 
 pub returns-then-is_over : goal.returns-then-is_over
 returns-then-is_over g c = turn-ends _ _ _ _ _ _ _ _ _ _ _ _ (c.step-waits.ensures.stepped (search rules)) c.loop.invariant _ (search rules) (search rules)

@@ -1,15 +1,17 @@
-use mathlib.Core.Path.{refl}
-use native.Mathlib.Omega.{arith}
-use borrow.Author.Tests.{lt-ltb, le-ltb}
-use Rattle.formatting.specs.FlagsAsNumber.{flags_of}
-use Rattle.str_writer.specs.Value.{debug, text_of}
-use Rattle.single_writes.proofs.Counting.{counts-integer}
+use mathlib.Core.List.{[]}
+use mathlib.Core.Path.{◌∙◌}
+use Rattle.str_writer.specs.Value.{integer, debug, text_of}
+use Rattle.calls.specs.Model.{counting}
+use Rattle.value_writes.specs.Values.{value_out}
+use Rattle.single_writes.specs.ByFlags.{wrong_flags, from}
+use Rattle.single_writes.proofs.Counting.{counts-integer, flags_ok}
 use Rattle.single_writes.proofs.counts.count_debug.Goals as goal
 
-pub returns-then-flags-ge12 : goal.returns-then-flags-ge12
-returns-then-flags-ge12 g c = rw (le-ltb c.args.flags 12 (omega arith), c.number.ensures) refl
-
-pub returns : goal.returns
+pub returns-in-Ok : goal.returns-in-Ok
 unfolding text_of
-returns g c = rw (lt-ltb c.args.flags 12 (omega arith))
-    (counts-integer c.args.total.now (flags_of c.args.flags) debug g.I.PrimitiveInteger.BITS (g.I.PrimitiveInteger.value c.args.x) c.add.ensures (rw c.flags_of.ensures at c.compute_debug_len.ensures))
+returns-in-Ok g c = let a = c.args in
+    let k = g.I.PrimitiveInteger.BITS in
+    let z = g.I.PrimitiveInteger.value a.x in
+    rw c.answer_number.ensures
+    (counts-integer a.total.now c.in-Ok.flags debug k z c.add.ensures c.compute_debug_len.ensures
+    ∙ flags_ok a.flags (wrong_flags (counting a.total.now) []) (λ f. value_out (from a.total.now) [] f (integer debug k z)) c.in-Ok.flags c.in-Ok.ensures)
