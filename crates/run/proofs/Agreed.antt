@@ -17,13 +17,13 @@ use Rattle.agreement.proofs.Keeping.{On, In, step_keep}
 use Rattle.agreement.proofs.Rest.{rest-written}
 use Rattle.agreement.proofs.Agree.{done_first, first_done, agree}
 use Rattle.agreement.proofs.Counting.{count_suffices}
-use Rattle.writer_backend.specs.Output.{as_mode}
-use Rattle.formatter.specs.declared.head.Head.{Head}
-use Rattle.formatter.specs.View.{depth_of}
+use Rattle.writer_backend.specs.declared.pieces.WriterBackend.{WriterBackend}
+use Rattle.writer_backend.specs.Output.{as_mode, with_number, output_of}
 use Rattle.formatter.specs.Calls.{step_or}
 use Rattle.std.specs.Prelude.{Option, Some, None}
 use Rattle.run.specs.declared.Refusal.{Refusal}
 use Rattle.run.specs.declared.Ran.{Ran}
+use Rattle.run.specs.declared.End.{End}
 use Rattle.run.specs.Played.{Played, first_number, place_in, ending, run_or, ended, played, end_counted, end_written, stored, CountAgrees, WriteAgrees, calls_in, WritesAsCounted}
 
 -- what each piece keeps of the output, each list of words keeps that is played
@@ -40,39 +40,34 @@ module _ (P : Mode → List ℕ → Type 0) (keeps : (m : Mode) (b t : List ℕ)
 played-rest : (m : Mode) (b : List ℕ) (S : Settings) (ds : List (Option Call)) → On (LeavesRest m b) (played m b S ds).output
 played-rest m b S ds = play_keep (LeavesRest m b) (put_rest m b) (start m b S) ds (rest-start m b)
 
--- so the end of a head is the end of its Ran, in the mode that the run started in
-abbrev end_in : List (Option Call) → Mode → Ran → List ℕ → Played
-end_in ds (counting n) r b = record { first = first_number r.first; place = place_in ds r.first; entries = r.entries; output = record { mode = counting r.number; bytes = b } }
-end_in ds (writing p) r b = record { first = first_number r.first; place = place_in ds r.first; entries = r.entries; output = record { mode = writing r.number; bytes = b } }
+-- so a head ends in the mode that the run began in
+end_same : (m : Mode) (b0 : List ℕ) (n t : ℕ) (b : List ℕ) → LeavesRest m b0 (as_mode t n) b → with_number m n ≡ as_mode t n
+end_same (counting k) b0 n zero b h = absurd h
+end_same (counting k) b0 n (suc t) b h = refl
+end_same (writing k) b0 n zero b h = refl
+end_same (writing k) b0 n (suc t) b h = absurd h
 
-end_same : (ds : List (Option Call)) (m : Mode) (b0 : List ℕ) (r : Ran) (t : ℕ) (b : List ℕ)
-    → LeavesRest m b0 (as_mode t r.number) b → end_in ds m r b ≡ record { first = first_number r.first; place = place_in ds r.first; entries = r.entries; output = record { mode = as_mode t r.number; bytes = b } }
-end_same ds (counting k) b0 r zero b h = absurd h
-end_same ds (counting k) b0 r (suc t) b h = refl
-end_same ds (writing k) b0 r zero b h = refl
-end_same ds (writing k) b0 r (suc t) b h = absurd h
-
-abbrev ran_of : Option Refusal → Head → Ran
-ran_of f h = record { first = f; number = h.writer.number; entries = depth_of h.depth }
-
-pub end_in_lem : (m : Mode) (b0 : List ℕ) (S : Settings) (ds : List (Option Call)) (f : Option Refusal) (h : Head) (n : ℕ) (b : List ℕ)
-    → n ≡ depth_of h.depth → ending ds f h b ≡ played m b0 S ds → end_in ds m (record { first = f; number = h.writer.number; entries = n }) b ≡ played m b0 S ds
-end_in_lem m b0 S ds f h n b e q =
-    rw e (end_same ds m b0 (ran_of f h) (h.writer.mode % 2) b (subst (λ (x : Played). On (LeavesRest m b0) x.output) (sym q) (played-rest m b0 S ds)) ∙ q)
+pub ended_in : (m : Mode) (b0 : List ℕ) (S : Settings) (ds : List (Option Call)) (f : Option Refusal) (w : WriterBackend) (n : ℕ) (b : List ℕ)
+    → ◌≡◌ {A = Played} (record { first = first_number f; place = place_in ds f; entries = n; output = output_of w b }) (played m b0 S ds)
+    → ending ds f m (record { number = w.number; entries = n }) b ≡ played m b0 S ds
+ended_in m b0 S ds f w n b q = rw (end_same m b0 w.number (w.mode % 2) b (subst (λ (x : Played). On (LeavesRest m b0) x.output) (sym q) (played-rest m b0 S ds))) q
 
 none_left : {A : Type 0} (s : List A) → length s ≡ 0 → s ≡ []
 none_left [] e = refl
 none_left (x ∷ s) e = absurd (omega arith)
 
 -- the end and the answers of a counting run, which has no bytes, and of a writing one
-module _ (m : Mode) (n : ℕ) (S : Settings) (ds : List (Option Call)) (r : Ran) (l l' : List ℕ) where
-  pub counted : (b : List ℕ) → m ≡ counting n → length b ≡ 0 → end_in ds m r b ≡ played m [] S ds → l' ≡ stored l (run_or (start m [] S) ds).answers
-      → (end_counted ds r ≡ played (counting n) [] S ds) × (l' ≡ stored l (run_or (start (counting n) [] S) ds).answers)
-  counted b e z q a = (rw (e, none_left b z) at q, rw e at a)
+module _ (m : Mode) (n : ℕ) (S : Settings) (ds : List (Option Call)) (f : Option Refusal) (e : End) (l l' : List ℕ) where
+  abbrev r : Ran
+  r = record { first = f; number = e.number; entries = e.entries }
 
-  pub written : (b0 b : List ℕ) → m ≡ writing n → end_in ds m r b ≡ played m b0 S ds → l' ≡ stored l (run_or (start m b0 S) ds).answers
+  pub counted : (b : List ℕ) → m ≡ counting n → length b ≡ 0 → ending ds f m e b ≡ played m [] S ds → l' ≡ stored l (run_or (start m [] S) ds).answers
+      → (end_counted ds r ≡ played (counting n) [] S ds) × (l' ≡ stored l (run_or (start (counting n) [] S) ds).answers)
+  counted b h z q a = (rw (h, none_left b z) at q, rw h at a)
+
+  pub written : (b0 b : List ℕ) → m ≡ writing n → ending ds f m e b ≡ played m b0 S ds → l' ≡ stored l (run_or (start m b0 S) ds).answers
       → (end_written ds r b ≡ played (writing n) b0 S ds) × (l' ≡ stored l (run_or (start (writing n) b0 S) ds).answers)
-  written b0 b e q a = (rw e at q, rw e at a)
+  written b0 b h q a = (rw h at q, rw h at a)
 
 -- a list in which each is a call plays as the model runs it
 play_run : (F : State) (cs : List Call) → run_or F (map Some cs) ≡ run F cs

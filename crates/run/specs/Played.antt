@@ -6,11 +6,10 @@ use Rattle.calls.specs.declared.Settings.{Settings}
 use Rattle.calls.specs.Call.{Call, hold}
 use Rattle.calls.specs.Model.{Mode, counting, writing, Output, State, Run, start, beyond, most}
 use Rattle.agreement.specs.Agreement.{first_refusal, AllWhole, Proper, defined_text}
-use Rattle.writer_backend.specs.Output.{output_of}
-use Rattle.formatter.specs.declared.head.Head.{Head}
-use Rattle.formatter.specs.View.{depth_of}
+use Rattle.writer_backend.specs.Output.{with_number}
 use Rattle.formatter.specs.Calls.{step_or}
 use Rattle.run.specs.declared.Refusal.{Refusal}
+use Rattle.run.specs.declared.End.{End}
 use Rattle.run.specs.declared.Ran.{Ran}
 
 -- Document 01, 'A nested record': each call, also after a refused one, gets what the call before left; what is no call has an answer too
@@ -52,9 +51,9 @@ abbrev pub place_in : List (Option Call) → Option Refusal → ℕ
 place_in ds None = length ds
 place_in ds (Some f) = f.place
 
--- docs/DECISIONS.md, 'The formatter': the end of a run of the calls ds, of what it was refused with first, the head and the bytes as they then are
-abbrev pub ending : List (Option Call) → Option Refusal → Head → List ℕ → Played
-ending ds f h b = record { first = first_number f; place = place_in ds f; entries = depth_of h.depth; output = output_of h.writer b }
+-- docs/DECISIONS.md, 'The formatter': the end of a run of the calls ds, of what it was refused with first, the mode that it began in, where it ended, and the bytes as they then are
+abbrev pub ending : List (Option Call) → Option Refusal → Mode → End → List ℕ → Played
+ending ds f m e b = record { first = first_number f; place = place_in ds f; entries = e.entries; output = record { mode = with_number m e.number; bytes = b } }
 
 -- docs/DECISIONS.md, 'The formatter': the end that a Ran is, with the mode and the bytes as they then are
 abbrev end_of : List (Option Call) → Ran → Mode → List ℕ → Played

@@ -2,7 +2,7 @@
 // of open entries is a local array that is lent to the calls.
 #![tactic(auto)]
 
-ghost use Rattle.std.specs.Prelude.{◌≡◌, [], set};
+ghost use Rattle.std.specs.Prelude.{◌≡◌, [], set, None};
 ghost use Rattle.error.specs.Answer.{Answer, answer_number};
 ghost use Rattle.agreement.specs.Untouched.{OnlyBetween};
 ghost use Rattle.calls.specs.Model.{start, counting, writing};
@@ -65,14 +65,18 @@ fn store(answers: &mut [u8], at: usize, answer: Result<(), Error>)
     }
 }
 
-// A stack on which nothing is open. As a constant it is cleared at once; an array expression is stored
-// entry by entry, and then the loop's registers suffer.
-const UNUSED_STACK: [Entry; 64] = [Entry::UNUSED; 64];
+// Where a run ends: its total or cursor, and how many entries are open.
+#[derive(Clone, Copy)]
+struct End {
+    number: usize,
+    entries: usize,
+}
 
-// Plays the calls from the beginning, and gives the head at the end: 9 where the cursor is past the
-// buffer, also of no calls. The first refusal is lent: so it stays out of the registers while nothing
-// is refused.
+// Plays the calls from the beginning: 9 where the cursor is past the buffer, also of no calls. The
+// first refusal is lent: so it stays out of the registers while nothing is refused. The stack is lent
+// too, whatever it holds: cleared in here it takes the loop's registers.
 fn play(
+    stack: &mut [Entry; 64],
     writer: WriterBackend,
     settings: Settings,
     buf: &mut [u8],
@@ -80,15 +84,14 @@ fn play(
     text: &[u8],
     answers: &mut [u8],
     first: &mut Option<Refusal>,
-) -> Head
-    ensures buf_after { ending (decode calls.now text.now) first.new result buf.new
+) -> End
+    requires { first.old ≡ None }
+    ensures buf_after { ending (decode calls.now text.now) first.new (mode_of writer) result buf.new
         ≡ played (mode_of writer) buf.old settings (decode calls.now text.now) }
     ensures answers_after { answers.new
         ≡ stored answers.old (run_or (start (mode_of writer) buf.old settings) (decode calls.now text.now)).answers }
 {
-    let mut stack = UNUSED_STACK;
     let mut head = Head::new(writer, settings);
-    *first = None;
     note(first, writer.judge(buf), 0);
     for k in 0..calls.len() / 5 {
         let i = 5 * k;
@@ -99,11 +102,14 @@ fn play(
             calls[i + 3],
             calls[i + 4],
         ];
-        let answer = call_at(&mut head, &mut stack, buf, words, text);
+        let answer = call_at(&mut head, stack, buf, words, text);
         note(first, answer, k);
         store(answers, k, answer);
     }
-    head
+    End {
+        number: head.writer.number,
+        entries: head.depth.min(stack.len()),
+    }
 }
 
 // Counts a run from a total that there is already, and stores each call's answer as far as there is
@@ -120,8 +126,10 @@ fn count_each_from(
         ≡ stored answers.old (run_or (start (counting total) [] settings) (decode calls.now text.now)).answers }
 {
     let mut none = [0u8; 0];
+    let mut stack = [Entry::UNUSED; 64];
     let mut first = None;
-    let head = play(
+    let End { number, entries } = play(
+        &mut stack,
         WriterBackend::counting(total),
         settings,
         &mut none,
@@ -132,8 +140,8 @@ fn count_each_from(
     );
     Ran {
         first,
-        number: head.writer.number,
-        entries: head.open_entries(),
+        number,
+        entries,
     }
 }
 
@@ -183,8 +191,10 @@ pub fn write_run_each(
         (decode calls.now text.now) buf.old at (first_number result.first) result.number buf.new }
     ensures only_between { OnlyBetween buf.old at buf.new result.number }
 {
+    let mut stack = [Entry::UNUSED; 64];
     let mut first = None;
-    let head = play(
+    let End { number, entries } = play(
+        &mut stack,
         WriterBackend::writing(at),
         settings,
         buf,
@@ -195,8 +205,8 @@ pub fn write_run_each(
     );
     Ran {
         first,
-        number: head.writer.number,
-        entries: head.open_entries(),
+        number,
+        entries,
     }
 }
 

@@ -1,6 +1,6 @@
 use Rattle.writer_backend.specs.Output.{mode_of}
 use Rattle.encoded_call.specs.Encoding.{decode}
-use Rattle.run.proofs.Agreed.{end_in_lem, written, write_agrees, write-rest, writes_as_counted}
+use Rattle.run.proofs.Agreed.{written, write_agrees, write-rest, writes_as_counted}
 use Rattle.run.proofs.write_run_each.Goals as goal
 
 pub returns : goal.returns
@@ -8,10 +8,9 @@ returns c =
     let a = c.args in
     let ds = decode a.calls.now a.text.now in
     let w = c.writing in
-    let p = c.play-head in
+    let p = c.play-number in
     let b = p.new.buf in
-    let q = end_in_lem (mode_of w.result) a.buf.now a.settings ds p.new.first p.result _ b c.open_entries.ensures.value p.ensures.buf_after in
-    let e = written (mode_of w.result) a.at a.settings ds _ a.answers.now _ a.buf.now b w.ensures q p.ensures.answers_after in
+    let e = written (mode_of w.result) a.at a.settings ds p.new.first p.result a.answers.now _ a.buf.now b w.ensures p.ensures.buf_after p.ensures.answers_after in
     record {
       buf_after = e.0;
       answers_after = e.1;
