@@ -12,4 +12,4 @@ builder_of B = record { kind = B.kind; has_field = B.has_field; held = held_numb
 -- Document 01, 'Rust forms that cannot come along': in place of a builder that borrows, an open entry of the stack
 abbrev pub entry_of : code.Entry → Entry
 entry_of (BuilderEntry B) = builder (builder_of B)
-entry_of (OuterEntry U) = outer (record { flags = U.flags; margin = U.margin })
+entry_of (OuterEntry f m) = outer (record { flags = f; margin = m })

@@ -10,7 +10,7 @@ ghost use Rattle.formatter.specs.Calls.{call_of, step_or};
 ghost use Rattle.formatter.specs.View.{view, view_out};
 ghost use Rattle.formatter.specs.declared.entries.Entry as declared;
 
-use crate::entries::{Entry, Outer};
+use crate::entries::Entry;
 use crate::faults::{
     is_ready, judge_end_sub, judge_finish, judge_open, judge_place, judge_sub, judge_value,
 };
@@ -112,10 +112,10 @@ impl Head {
         self.writer.judge(buf)?;
         let depth = self.open_entries();
         judge_sub(&stack[..depth])?;
-        stack[depth] = Entry::Outer(Outer {
+        stack[depth] = Entry::Outer {
             flags: self.flags,
             margin: self.margin,
-        });
+        };
         self.flags = flags;
         self.depth = depth + 1;
         Ok(())
@@ -129,11 +129,11 @@ impl Head {
         let Some(top) = self.open_entries().checked_sub(1) else {
             return Err(Error::WrongCall);
         };
-        let Entry::Outer(outer) = stack[top] else {
+        let Entry::Outer { flags, margin } = stack[top] else {
             return Err(Error::WrongCall);
         };
-        self.flags = outer.flags;
-        self.margin = outer.margin;
+        self.flags = flags;
+        self.margin = margin;
         self.depth = top;
         Ok(())
     }

@@ -21,7 +21,7 @@ pub(crate) fn is_ready(entries: &[Entry]) -> bool
 {
     match entries.last() {
         Some(Entry::Builder(builder)) => builder.has_field,
-        Some(Entry::Outer(_)) => true,
+        Some(Entry::Outer { .. }) => true,
         None => true,
     }
 }
@@ -58,7 +58,7 @@ pub(crate) fn judge_finish(entries: &[Entry]) -> Result<(), Error>
 {
     match entries.last() {
         Some(Entry::Builder(_)) => Ok(()),
-        Some(Entry::Outer(_)) => Err(Error::WrongCall),
+        Some(Entry::Outer { .. }) => Err(Error::WrongCall),
         None => Err(Error::WrongCall),
     }
 }
@@ -81,7 +81,7 @@ pub(crate) fn judge_end_sub(entries: &[Entry]) -> Result<(), Error>
     ensures { answer_number result ≡ call_fault (inner (stack_of entries.now)) 0 0 endsub }
 {
     match entries.last() {
-        Some(Entry::Outer(_)) => Ok(()),
+        Some(Entry::Outer { .. }) => Ok(()),
         Some(Entry::Builder(_)) => Err(Error::WrongCall),
         None => Err(Error::WrongCall),
     }

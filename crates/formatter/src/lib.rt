@@ -11,6 +11,6 @@ mod head;
 mod writes;
 
 pub use dispatch::Op;
-pub use entries::{Entry, Outer};
+pub use entries::Entry;
 pub use formatter::Formatter;
 pub use head::Head;
