@@ -24,9 +24,19 @@ impl Head {
     pub fn new(writer: WriterBackend, settings: Settings) -> Head
         ensures { (s : List Entry) (b : List ℕ) → view result s b ≡ start (mode_of writer) b settings }
     {
+        // Part by part: whole, they are read again wider than they were just stored.
+        let FormattingFlags {
+            num_fmt,
+            hex_fmt,
+            is_alternate,
+        } = settings.flags;
         Head {
             writer,
-            flags: settings.flags,
+            flags: FormattingFlags {
+                num_fmt,
+                hex_fmt,
+                is_alternate,
+            },
             margin: 0,
             depth: 0,
         }

@@ -5,10 +5,8 @@ use Prim.Native.Nat.{ℕ, zero, suc, ◌+◌, ◌≤◌, ◌<◌}
 use native.Mathlib.Nat.{add-zero, zero-add, suc-add, add-suc}
 use native.Mathlib.Numerals.{add-one}
 use native.Mathlib.Omega.{arith}
-use lib.ListN.{length, drop, get_or, set}
+use lib.ListN.{length, take, drop, get_or, set}
 use lib.Seq.{drop-cons}
-use Rattle.std.proofs.Math.Nat.{min-le_right}
-use Rattle.std.proofs.lemmas.List.{length-take-le}
 use Rattle.calls.specs.declared.Settings.{Settings}
 use Rattle.calls.specs.Call.{Call, hold}
 use Rattle.calls.specs.Model.{Mode, State, Out, Run, start, beyond}
@@ -48,8 +46,8 @@ decode-end (o ∷ i ∷ n ∷ a ∷ []) t h = refl
 decode-end (o ∷ i ∷ n ∷ a ∷ b ∷ l) t h = absurd (omega arith)
 
 -- how many entries are open
-pub open-length : (h : Head) (s : List Entry) (b : List ℕ) → length s ≡ 64 → depth_of h.depth ≡ length (view h s b).stack
-open-length h s b e = sym (length_stack (open_of h s) ∙ length-take-le (depth_of h.depth) s (rw e (min-le_right h.depth 64)))
+pub open-length : (h : Head) (s : List Entry) (b : List ℕ) {n : ℕ} → n ≡ depth_of h.depth → length (take n s) ≡ length (view h s b).stack
+open-length h s b e = rw e (sym (length_stack (open_of h s)))
 
 -- what is left of a run that was refused with f first, of which k calls are played and the places l hold their answers
 pub record Rest : Type 0 where

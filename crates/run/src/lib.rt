@@ -108,7 +108,7 @@ fn play(
     }
     End {
         number: head.writer.number,
-        entries: head.depth.min(stack.len()),
+        entries: stack[..head.open_entries()].len(),
     }
 }
 

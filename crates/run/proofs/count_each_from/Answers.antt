@@ -1,4 +1,3 @@
-use mathlib.Core.List.{[]}
 use Rattle.writer_backend.specs.Output.{mode_of}
 use Rattle.encoded_call.specs.Encoding.{decode}
 use Rattle.run.proofs.Agreed.{counted}

@@ -1,7 +1,7 @@
-use mathlib.Core.Path.{◌≡◌, refl, ◌∙◌}
+use mathlib.Core.Path.{◌≡◌, ◌∙◌}
 use Prim.Native.Nat.{◌+◌, ◌*◌}
 use native.Mathlib.Omega.{arith}
-use lib.ListN.{length, drop, get_or, length-drop}
+use lib.ListN.{drop, get_or, length-drop}
 use Rattle.writer_backend.specs.Output.{mode_of}
 use Rattle.formatter.specs.View.{view}
 use Rattle.encoded_call.specs.Encoding.{call_at, decode}
@@ -28,6 +28,6 @@ returns c =
     let a = c.args in
     let ds = decode a.calls.now a.text.now in
     let e = rw (decode-end (drop (5 * h.k) a.calls.now) a.text.now (simp length-drop (omega (arith, c.loop-k-test.false, h.invariant.0)))) at h.invariant.3 in
-    let o = c.min.ensures ∙ open-length h.head h.stack h.buf c.told-stack in
+    let o = open-length h.head h.stack h.buf c.open_entries.ensures.value in
     let p = play_end (mode_of a.writer) a.buf.now a.settings ds a.answers.now _ _ _ (c.new-head.ensures a.stack.now a.buf.now) c.judge.ensures (rw c.requires at c.note.ensures) h.first h.k h.answers (view h.head h.stack h.buf) _ o e in
     record { buf_after = ended_in (mode_of a.writer) a.buf.now a.settings ds h.first h.head.writer _ h.buf p.0; answers_after = p.1 }
