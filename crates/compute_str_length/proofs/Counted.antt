@@ -1,30 +1,37 @@
 -- A call that is counted leaves a counting formatter.
 use mathlib.Core.List.{List, [], ◌∷◌}
-use mathlib.Core.Option.{Option, none, some as just}
-use mathlib.Core.Path.{◌≡◌, refl, sym, ap, subst, ◌∙◌}
+use mathlib.Core.Path.{◌≡◌, refl, sym, ap, ◌∙◌}
 use Prim.Native.Nat.{ℕ, zero, suc, ◌%◌}
-use Rattle.calls.specs.Call.{Call as ModelCall}
-use Rattle.calls.specs.Model.{counting, State, Out}
-use Rattle.agreement.proofs.Output.{Kept, KeptIn}
-use Rattle.agreement.proofs.Moves.{run_kept}
-use Rattle.writer_backend.specs.Output.{as_mode}
+use native.Mathlib.Omega.{arith}
+use lib.ListN.{length}
+use Rattle.error.specs.Answer.{Answer}
+use Rattle.calls.specs.Call.{Call}
+use Rattle.calls.specs.Model.{counting, Out, step}
+use Rattle.agreement.specs.Untouched.{LeavesRest}
+use Rattle.agreement.proofs.Output.{put_rest}
+use Rattle.agreement.proofs.Keeping.{On, step_keep}
+use Rattle.writer_backend.specs.declared.pieces.WriterBackend.{WriterBackend}
+use Rattle.writer_backend.specs.Output.{as_mode, mode_of}
 use Rattle.formatter.specs.declared.head.Head.{Head}
-use Rattle.formatter.specs.declared.head.HeadStep.{HeadStep}
-use Rattle.formatter.specs.View.{view_out}
-use Rattle.formatter.specs.Calls.{step_or}
-use Rattle.compute_str_length.specs.Total.{counting_at}
+use Rattle.formatter.specs.declared.entries.Entry.{Entry}
+use Rattle.formatter.specs.View.{view, view_out}
+use Rattle.compute_str_length.specs.Total.{counting_at, CountsCall}
 
--- a call that is counted leaves a counting formatter, so the head's mode is one
-counted-on : (F : State) (c : Option ModelCall) → KeptIn (counting 0) [] F.output → KeptIn (counting 0) [] (step_or F c).state.output
-counted-on F (just c) k = run_kept (counting 0) [] F (c ∷ []) k
-counted-on F none k = k
+as_counting : (t n : ℕ) → LeavesRest (counting 0) [] (as_mode t n) [] → as_mode t n ≡ counting n
+as_counting zero n h = absurd h
+as_counting (suc t) n h = refl
 
-as_counting : (c n : ℕ) → Kept (counting 0) [] (as_mode c n) [] → as_mode c n ≡ counting n
-as_counting zero n k = absurd k.0
-as_counting (suc c) n k = refl
+none_left : (b : List ℕ) → length b ≡ 0 → b ≡ []
+none_left [] e = refl
+none_left (x ∷ b) e = absurd (omega arith)
 
-pub call_counts : (m : ℕ) (d : Head) (s : List ℕ) (c : Option ModelCall) (r : HeadStep) (z : List ℕ) → ◌≡◌ {A = Out} (view_out r z []) (step_or (counting_at m d s) c)
-    → (step_or (counting_at m d s) c).state.output.mode ≡ counting r.head.mode.number
-call_counts m d s c r z e =
-    let k = subst (λ (u : Out). KeptIn (counting 0) [] u.state.output) (sym e) (counted-on (counting_at m d s) c (refl, tt)) in
-    ap (λ (u : Out). u.state.output.mode) (sym e) ∙ as_counting (r.head.mode.mode % 2) r.head.mode.number k
+-- what a call gives on a head that is made to count
+pub call_counts : (m : ℕ) (h : Head) (w : WriterBackend) (s : List Entry) (c : Call) (r : Answer) (h' : Head) (s' : List Entry) (b : List ℕ)
+    → mode_of w ≡ counting m → length b ≡ 0
+    → view_out r h' s' b ≡ step (view (record { writer = w; flags = h.flags; margin = h.margin; depth = h.depth }) s []) c
+    → CountsCall r h' s' h'.writer.number (step (counting_at m h s) c)
+call_counts m h w s c r h' s' b ew eb e =
+    let q : view_out r h' s' [] ≡ step (counting_at m h s) c = rw (ew, none_left b eb) at e in
+    let k : On (LeavesRest (counting 0) []) (step (counting_at m h s) c).state.output = step_keep (LeavesRest (counting 0) []) (put_rest (counting 0) []) (counting_at m h s) c refl in
+    let k' : LeavesRest (counting 0) [] (mode_of h'.writer) [] = rw (← q) at k in
+    (q, ap (λ (o : Out). o.state.output.mode) (sym q) ∙ as_counting (h'.writer.mode % 2) h'.writer.number k')

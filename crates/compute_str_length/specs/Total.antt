@@ -5,7 +5,7 @@ use Rattle.error.specs.declared.Error.TheVariants.{CountTooLarge}
 use Rattle.calls.specs.Model.{counting, State, Out, most}
 use Rattle.formatter.specs.declared.head.Head.{Head}
 use Rattle.formatter.specs.declared.entries.Entry.{Entry}
-use Rattle.formatter.specs.View.{stack_of, depth_of, view_out}
+use Rattle.formatter.specs.View.{stack_of, open_of, view_out}
 use Rattle.calls.specs.Call.{Call}
 use Rattle.run.specs.declared.Ran.{Ran}
 use Rattle.run.specs.Played.{Played, end_counted}
@@ -23,7 +23,7 @@ add_to total n = cond (ltb most (total + n)) (record { answer = number_of CountT
 
 -- 'A nested record': the formatter that a head and its stack are where the counter has the total; the head's own mode says nothing
 abbrev pub counting_at : ℕ → Head → List Entry → State
-counting_at total h s = record { output = record { mode = counting total; bytes = [] }; flags = h.flags; margin = h.margin; stack = stack_of s (depth_of h.depth) }
+counting_at total h s = record { output = record { mode = counting total; bytes = [] }; flags = h.flags; margin = h.margin; stack = stack_of (open_of h s) }
 
 -- 'A nested record': one counter, lent through the calls and advanced by each: the answer r, the head h and the stack s are what a call gives, o, and the formatter then counts on from the counter's total
 abbrev pub CountsCall : Answer → Head → List Entry → ℕ → Out → Type 0

@@ -30,6 +30,7 @@ impl ComputeStrLength {
     }
 
     // Adds to the total, or answers 6 and leaves it.
+    #[tactic(auto, unfolding(crate::specs::Total::add_to))]
     pub fn add_len(&mut self, len: usize) -> Result<(), Error>
         ensures { ◌≡◌ {A = Added} (record { answer = answer_number result; total = self.new.len }) (add_to self.old.len len) }
     {

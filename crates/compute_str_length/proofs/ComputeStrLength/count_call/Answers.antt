@@ -4,5 +4,6 @@ use Rattle.compute_str_length.proofs.ComputeStrLength.count_call.Goals as goal
 
 pub returns : goal.returns
 returns c =
-    let r = c.call_from-r in
-    (r.ensures, call_counts c.args.self.now.len c.args.head c.args.stack.now (call_of c.args.op c.args.text.now) r.result r.new.stack r.ensures)
+    let a = c.args in
+    let r = c.call-answer in
+    call_counts a.self.now.len a.head.now c.counting-head.result a.stack.now (call_of a.op a.text.now) r.result r.new.self r.new.stack _ c.counting-head.ensures r.auto.buf r.ensures
