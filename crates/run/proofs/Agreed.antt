@@ -17,13 +17,14 @@ use Rattle.agreement.proofs.Keeping.{On, In, step_keep}
 use Rattle.agreement.proofs.Rest.{rest-written}
 use Rattle.agreement.proofs.Agree.{done_first, first_done, agree}
 use Rattle.agreement.proofs.Counting.{count_suffices}
-use Rattle.writer_backend.specs.declared.pieces.WriterBackend.{WriterBackend}
-use Rattle.writer_backend.specs.Output.{as_mode, output_of}
+use Rattle.writer_backend.specs.Output.{as_mode}
+use Rattle.formatter.specs.declared.head.Head.{Head}
+use Rattle.formatter.specs.View.{depth_of}
 use Rattle.formatter.specs.Calls.{step_or}
 use Rattle.std.specs.Prelude.{Option, Some, None}
 use Rattle.run.specs.declared.Refusal.{Refusal}
 use Rattle.run.specs.declared.Ran.{Ran}
-use Rattle.run.specs.Played.{Played, first_number, place_in, run_or, ended, played, end_counted, end_written, stored, CountAgrees, WriteAgrees, calls_in, WritesAsCounted}
+use Rattle.run.specs.Played.{Played, first_number, place_in, ending, run_or, ended, played, end_counted, end_written, stored, CountAgrees, WriteAgrees, calls_in, WritesAsCounted}
 
 -- what each piece keeps of the output, each list of words keeps that is played
 module _ (P : Mode → List ℕ → Type 0) (keeps : (m : Mode) (b t : List ℕ) → P m b → On P (put_in m b t).output) where
@@ -39,25 +40,25 @@ module _ (P : Mode → List ℕ → Type 0) (keeps : (m : Mode) (b t : List ℕ)
 played-rest : (m : Mode) (b : List ℕ) (S : Settings) (ds : List (Option Call)) → On (LeavesRest m b) (played m b S ds).output
 played-rest m b S ds = play_keep (LeavesRest m b) (put_rest m b) (start m b S) ds (rest-start m b)
 
--- so the end, as a WriterBackend and bytes, is of the mode that the run started in
-abbrev end_of : List (Option Call) → Ran → Output → Played
-end_of ds r d = record { first = first_number r.first; place = place_in ds r.first; entries = r.entries; output = d }
-
+-- so the end of a head is the end of its Ran, in the mode that the run started in
 abbrev end_in : List (Option Call) → Mode → Ran → List ℕ → Played
-end_in ds (counting n) r b = end_of ds r (record { mode = counting r.number; bytes = b })
-end_in ds (writing p) r b = end_of ds r (record { mode = writing r.number; bytes = b })
+end_in ds (counting n) r b = record { first = first_number r.first; place = place_in ds r.first; entries = r.entries; output = record { mode = counting r.number; bytes = b } }
+end_in ds (writing p) r b = record { first = first_number r.first; place = place_in ds r.first; entries = r.entries; output = record { mode = writing r.number; bytes = b } }
 
 end_same : (ds : List (Option Call)) (m : Mode) (b0 : List ℕ) (r : Ran) (t : ℕ) (b : List ℕ)
-    → LeavesRest m b0 (as_mode t r.number) b → end_in ds m r b ≡ end_of ds r (record { mode = as_mode t r.number; bytes = b })
+    → LeavesRest m b0 (as_mode t r.number) b → end_in ds m r b ≡ record { first = first_number r.first; place = place_in ds r.first; entries = r.entries; output = record { mode = as_mode t r.number; bytes = b } }
 end_same ds (counting k) b0 r zero b h = absurd h
 end_same ds (counting k) b0 r (suc t) b h = refl
 end_same ds (writing k) b0 r zero b h = refl
 end_same ds (writing k) b0 r (suc t) b h = absurd h
 
-pub end_in_lem : (m : Mode) (b0 : List ℕ) (S : Settings) (ds : List (Option Call)) (r : Ran) (w : WriterBackend) (b : List ℕ)
-    → r.number ≡ w.number → end_of ds r (output_of w b) ≡ played m b0 S ds → end_in ds m r b ≡ played m b0 S ds
-end_in_lem m b0 S ds r w b e q =
-    end_same ds m b0 r (w.mode % 2) b (rw e (subst (λ (x : Played). On (LeavesRest m b0) x.output) (sym q) (played-rest m b0 S ds))) ∙ rw e q
+abbrev ran_of : Option Refusal → Head → Ran
+ran_of f h = record { first = f; number = h.writer.number; entries = depth_of h.depth }
+
+pub end_in_lem : (m : Mode) (b0 : List ℕ) (S : Settings) (ds : List (Option Call)) (f : Option Refusal) (h : Head) (n : ℕ) (b : List ℕ)
+    → n ≡ depth_of h.depth → ending ds f h b ≡ played m b0 S ds → end_in ds m (record { first = f; number = h.writer.number; entries = n }) b ≡ played m b0 S ds
+end_in_lem m b0 S ds f h n b e q =
+    rw e (end_same ds m b0 (ran_of f h) (h.writer.mode % 2) b (subst (λ (x : Played). On (LeavesRest m b0) x.output) (sym q) (played-rest m b0 S ds)) ∙ q)
 
 none_left : {A : Type 0} (s : List A) → length s ≡ 0 → s ≡ []
 none_left [] e = refl

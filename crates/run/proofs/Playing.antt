@@ -7,11 +7,17 @@ use native.Mathlib.Numerals.{add-one}
 use native.Mathlib.Omega.{arith}
 use lib.ListN.{length, drop, get_or, set}
 use lib.Seq.{drop-cons}
+use Rattle.std.proofs.Math.Nat.{min-le_right}
+use Rattle.std.proofs.lemmas.List.{length-take-le}
 use Rattle.calls.specs.declared.Settings.{Settings}
 use Rattle.calls.specs.Call.{Call, hold}
 use Rattle.calls.specs.Model.{Mode, State, Out, Run, start, beyond}
 use Rattle.agreement.specs.Agreement.{first_refusal}
 use Rattle.formatter.specs.Calls.{step_or}
+use Rattle.formatter.specs.View.{depth_of, open_of, view}
+use Rattle.formatter.specs.declared.head.Head.{Head}
+use Rattle.formatter.specs.declared.entries.Entry.{Entry}
+use Rattle.formatter.proofs.Laws.{length_stack}
 use Rattle.encoded_call.specs.Encoding.{call_at, decode}
 use Rattle.std.specs.Prelude.{Option, Some, None, Ok, Err}
 use Rattle.error.specs.declared.Error.{Error}
@@ -40,6 +46,10 @@ decode-end (o ∷ i ∷ []) t h = refl
 decode-end (o ∷ i ∷ n ∷ []) t h = refl
 decode-end (o ∷ i ∷ n ∷ a ∷ []) t h = refl
 decode-end (o ∷ i ∷ n ∷ a ∷ b ∷ l) t h = absurd (omega arith)
+
+-- how many entries are open
+pub open-length : (h : Head) (s : List Entry) (b : List ℕ) → length s ≡ 64 → depth_of h.depth ≡ length (view h s b).stack
+open-length h s b e = sym (length_stack (open_of h s) ∙ length-take-le (depth_of h.depth) s (rw e (min-le_right h.depth 64)))
 
 -- what is left of a run that was refused with f first, of which k calls are played and the places l hold their answers
 pub record Rest : Type 0 where
@@ -127,7 +137,7 @@ each-answered F [] = refl
 each-answered F (c ∷ cs) = ap suc (each-answered (step_or F c).state cs)
 
 -- nothing left: the end of the run, where x is what the cursor meets
-module _ (m : Mode) (b : List ℕ) (S : Settings) (ds : List (Option Call)) (l : List ℕ) (G : State) (x : Answer) (q : G ≡ start m b S) (eq : answer_number x ≡ beyond m b) where
+module _ (m : Mode) (b : List ℕ) (S : Settings) (ds : List (Option Call)) (l : List ℕ) (G : State) (x : Answer) (f0 : Option Refusal) (q : G ≡ start m b S) (eq : answer_number x ≡ beyond m b) (ef : f0 ≡ noted None x 0) where
   abbrev R : Run
   R = run_or (start m b S) ds
 
@@ -139,10 +149,10 @@ module _ (m : Mode) (b : List ℕ) (S : Settings) (ds : List (Option Call)) (l :
       go (Err e) k = sym (met e (λ (n : ℕ). n ≡ beyond m b → refused_at R.answers ≡ 0) (λ n h. past_place (start m b S) ds n h) k)
 
   pub play_end : (f : Option Refusal) (k : ℕ) (t : List ℕ) (F : State) (o : ℕ) → o ≡ length F.stack
-      → rest f k t (record { answers = []; state = F }) ≡ rest (noted None x 0) 0 l (run_or G ds)
+      → rest f k t (record { answers = []; state = F }) ≡ rest f0 0 l (run_or G ds)
       → (◌≡◌ {A = Played} (record { first = first_number f; place = place_in ds f; entries = o; output = F.output }) (played m b S ds)) × (t ≡ stored l R.answers)
   play_end f k t F o eo i =
-      let j : rest f k t (record { answers = []; state = F }) ≡ rest (noted None x 0) 0 l R = rw (← q) i in
+      let j : rest f k t (record { answers = []; state = F }) ≡ rest (noted None x 0) 0 l R = rw (← q, ← ef) i in
       let h : first_number f ≡ hold (beyond m b) (first_refusal R.answers) = sym (hold-done (first_number f)) ∙ ap (λ (r : Rest). r.first) j ∙ (first-next None x 0 (first_refusal R.answers) ∙ rw (← eq)) in
       let u : place_in ds f ≡ refused_at R.answers = at f h (ap (λ (r : Rest). r.place) j ∙ first-place) in
       let v : F ≡ R.state = ap (λ (r : Rest). r.state) j in

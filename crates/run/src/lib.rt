@@ -55,14 +55,19 @@ fn note(first: &mut Option<Refusal>, answer: Result<(), Error>, place: usize)
     }
 }
 
-// Stores an answer's number in its place, if there is one.
+// Stores an answer's number in its place, if there is one. By an index: the library says nothing of
+// what a slice ends as after `get_mut`.
 fn store(answers: &mut [u8], at: usize, answer: Result<(), Error>)
     ensures { answers.new ≡ set answers.old at (answer_number answer) }
 {
-    if let Some(place) = answers.get_mut(at) {
-        *place = answer_number(answer);
+    if at < answers.len() {
+        answers[at] = answer_number(answer);
     }
 }
+
+// A stack on which nothing is open. As a constant it is cleared at once; an array expression is stored
+// entry by entry, and then the loop's registers suffer.
+const UNUSED_STACK: [Entry; 64] = [Entry::UNUSED; 64];
 
 // Plays the calls from the beginning, and gives the head at the end: 9 where the cursor is past the
 // buffer, also of no calls. The first refusal is lent: so it stays out of the registers while nothing
@@ -81,7 +86,7 @@ fn play(
     ensures answers_after { answers.new
         ≡ stored answers.old (run_or (start (mode_of writer) buf.old settings) (decode calls.now text.now)).answers }
 {
-    let mut stack = [Entry::UNUSED; 64];
+    let mut stack = UNUSED_STACK;
     let mut head = Head::new(writer, settings);
     *first = None;
     note(first, writer.judge(buf), 0);

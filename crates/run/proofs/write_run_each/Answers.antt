@@ -1,4 +1,3 @@
-use mathlib.Core.Path.{refl}
 use Rattle.writer_backend.specs.Output.{mode_of}
 use Rattle.encoded_call.specs.Encoding.{decode}
 use Rattle.run.proofs.Agreed.{end_in_lem, written, write_agrees, write-rest, writes_as_counted}
@@ -9,9 +8,9 @@ returns c =
     let a = c.args in
     let ds = decode a.calls.now a.text.now in
     let w = c.writing in
-    let p = c.play-end in
+    let p = c.play-head in
     let b = p.new.buf in
-    let q = end_in_lem (mode_of w.result) a.buf.now a.settings ds _ p.result.mode b refl p.ensures.buf_after in
+    let q = end_in_lem (mode_of w.result) a.buf.now a.settings ds p.new.first p.result _ b c.open_entries.ensures.value p.ensures.buf_after in
     let e = written (mode_of w.result) a.at a.settings ds _ a.answers.now _ a.buf.now b w.ensures q p.ensures.answers_after in
     record {
       buf_after = e.0;
