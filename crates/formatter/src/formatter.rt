@@ -62,7 +62,7 @@ impl Formatter {
     }
 
     // One call, whose text is lent beside it.
-    pub(crate) fn call(&mut self, buf: &mut [u8], op: Op, s: &[u8]) -> Result<(), Error>
+    pub fn call(&mut self, buf: &mut [u8], op: Op, s: &[u8]) -> Result<(), Error>
         ensures { view_f_out result self.new buf.new ≡ step (view_f self.old buf.old) (call_of op s.now) }
     {
         self.head.call(&mut self.stack, buf, op, s)

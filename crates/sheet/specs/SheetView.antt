@@ -2,25 +2,16 @@
 use Rattle.std.specs.Prelude.{Bool, List, [], ℕ, Option}
 use Rattle.calls.specs.Call.{Call}
 use Rattle.str_writer.specs.Write.{Outcome, outcome, written, put}
-use Rattle.formatter.specs.View.{view}
-use Rattle.calls.specs.Model.{State, Out, step}
+use Rattle.formatter.specs.View.{view_f}
+use Rattle.calls.specs.Model.{step}
 use Rattle.sheet.specs.Sheet.{Sheet, row_of, stepped}
 use Rattle.sheet.specs.declared.print.Row.{Row}
-use Rattle.sheet.specs.declared.Run.{Run}
 use Rattle.sheet.specs.declared.Answered.{Answered}
 use Rattle.sheet.specs.declared.Sheet as code
 
--- 'The call sheet': the formatter that a run and its buffer are
-abbrev pub run_of : Run → List ℕ → State
-run_of r b = view r.head r.stack b
-
--- 'The call sheet': the same with what its last call answered
-abbrev pub answer_of : ℕ → Run → List ℕ → Out
-answer_of n r b = record { answer = n; state = run_of r b }
-
 -- 'The call sheet': the counting run has no buffer
 abbrev pub sheet_of : code.Sheet → List ℕ → Sheet
-sheet_of s b = record { counted = run_of s.counted []; written = run_of s.written b }
+sheet_of s b = record { counted = view_f s.counted []; written = view_f s.written b }
 
 -- 'The call sheet': both runs advanced by a call, and its row
 pub record Step : Type 0 where

@@ -4,60 +4,29 @@
 
 mod print;
 
-ghost use Rattle.std.specs.Prelude.{◌≡◌, List, ℕ, ◌≤◌, length, Some, is_some};
+ghost use Rattle.std.specs.Prelude.{◌≡◌, List, ℕ, ◌≤◌, length};
 ghost use Rattle.str_writer.specs.Write.{outcome, splice, written};
 ghost use Rattle.str_writer.specs.Write.{put as put_text};
 ghost use Rattle.sheet_line.specs.Line.{call_of_line};
-ghost use Rattle.sheet_line.specs.Reading.{text_in, call_in};
+ghost use Rattle.sheet_line.specs.Reading.{text_in};
 ghost use Rattle.sheet.specs.Sheet.{fresh_sheet, max_row, end_text, max_end, stepped};
-ghost use Rattle.calls.specs.Call.{Call};
-ghost use Rattle.calls.specs.Model.{start};
-ghost use Rattle.formatter.specs.Calls.{call_of, step_or};
-ghost use Rattle.writer_backend.specs.Output.{mode_of};
-ghost use Rattle.sheet.specs.SheetView.{run_of, answer_of, stepped_of, sheet_of, stepping, answered, answering};
+ghost use Rattle.formatter.specs.Calls.{call_of};
+ghost use Rattle.sheet.specs.SheetView.{stepped_of, sheet_of, stepping, answered, answering};
 
 use calls::Settings;
-use error::Error;
-use formatter::{Head, Op, call};
+use error::{Error, answer_number};
+use formatter::{Formatter, Op};
 use print::{Row, put_end, put_row};
 pub use print::{put_bad, put_refused};
 use sheet_line::parse_line;
 use utils::slice_up_to_len;
 use writer_backend::WriterBackend;
 
-// A run of a sheet: its formatter, and the stack of its open entries.
-#[derive(Clone, Copy)]
-pub struct Run {
-    pub head: Head,
-    pub stack: [u32; 64],
-}
-
-impl Run {
-    // Nothing is called yet.
-    fn new(mode: WriterBackend, settings: Settings) -> Run
-        ensures { (b : List ℕ) → run_of result b ≡ start (mode_of mode) b settings }
-    {
-        Run {
-            head: Head::new(mode, settings),
-            stack: [0; 64],
-        }
-    }
-
-    // Makes a call, and gives its answer.
-    fn call(&mut self, buf: &mut [u8], op: Op, s: &[u8]) -> u8
-        ensures { answer_of result self.new buf.new ≡ step_or (run_of self.old buf.old) (call_of op s.now) }
-    {
-        let step = call(self.head, &mut self.stack, buf, op, s);
-        self.head = step.head;
-        step.answer
-    }
-}
-
 // The two runs of a sheet, without the buffer, which is lent.
 #[derive(Clone, Copy)]
 pub struct Sheet {
-    pub counted: Run,
-    pub written: Run,
+    pub counted: Formatter,
+    pub written: Formatter,
 }
 
 // Whether a line is a call, and the cursor after what it prints. Both kinds of line print, so the
@@ -68,36 +37,29 @@ pub struct Answered {
     pub print: Result<usize, Error>,
 }
 
-fn is_call(op: Op) -> bool
-    ensures { (s : List ℕ) → result ≡ is_some (call_in (Some op) s) }
-{
-    !matches!(op, Op::Nothing)
-}
-
 impl Sheet {
     // Both runs fresh, with a cursor and settings.
     pub fn fresh(at: usize, settings: Settings) -> Sheet
         ensures { (b : List ℕ) → sheet_of result b ≡ fresh_sheet b at settings }
     {
         Sheet {
-            counted: Run::new(WriterBackend::counting(0), settings),
-            written: Run::new(WriterBackend::writing(at), settings),
+            counted: Formatter::counting(settings),
+            written: Formatter::new(WriterBackend::writing(at), settings),
         }
     }
 
     // Makes a call in both runs, and gives its row.
     fn step(&mut self, line: u64, buf: &mut [u8], op: Op, s: &[u8]) -> Row
-        ensures { (c : Call) → call_in (Some op) s.now ≡ Some c →
-            stepped_of self.new result buf.new ≡ stepping line (sheet_of self.old buf.old) c }
+        ensures { stepped_of self.new result buf.new ≡ stepping line (sheet_of self.old buf.old) (call_of op s.now) }
     {
-        let counting_answer = self.counted.call(&mut [], op, s);
-        let writing_answer = self.written.call(buf, op, s);
+        let counting_answer = answer_number(self.counted.call(&mut [], op, s));
+        let writing_answer = answer_number(self.written.call(buf, op, s));
         Row {
             line,
             counting_answer,
-            total: self.counted.head.mode.number as u64,
+            total: self.counted.head.writer.number as u64,
             writing_answer,
-            cursor: self.written.head.mode.number as u64,
+            cursor: self.written.head.writer.number as u64,
         }
     }
 
@@ -118,13 +80,12 @@ impl Sheet {
             (call_of_line l.now)).text ≤ max_row }
         ensures text_after { text.new ≡ splice text.old 0 (text_in (call_of_line l.now)) }
     {
-        let parsed = parse_line(l, text);
-        if !is_call(parsed.op) {
+        let Some(parsed) = parse_line(l, text) else {
             return Answered {
                 is_call: false,
                 print: put_bad(out, at, line),
             };
-        }
+        };
         let row = self.step(line, buf, parsed.op, slice_up_to_len(text, parsed.len));
         Answered {
             is_call: true,
@@ -137,8 +98,8 @@ impl Sheet {
         ensures out_after { outcome (written at result) out.new ≡ put_text out.old at (end_text (sheet_of self.now buf.now)) }
         ensures text_len_bound { length (end_text (sheet_of self.now buf.now)) ≤ max_end (length buf.now) }
     {
-        let total = self.counted.head.mode.number;
-        let cursor = self.written.head.mode.number;
+        let total = self.counted.head.writer.number;
+        let cursor = self.written.head.writer.number;
         let bytes = slice_up_to_len(buf, cursor);
         put_end(out, at, total as u64, cursor as u64, bytes)
     }

@@ -7,11 +7,12 @@ use lib.Seq.{take-append_seam}
 use borrow.Author.Tests.{le-leb}
 use Rattle.str_writer.specs.Write.{splice}
 use Rattle.str_writer.proofs.Splice.{splice-nil}
+use Rattle.formatter.specs.Calls.{call_of}
 use Rattle.formatter.specs.declared.dispatch.Op.{Op}
 use Rattle.fields.specs.Hex.{is_hex, hex_bytes, from_hex, Read, read_hex}
 use Rattle.fields.proofs.Pairs.{bytes-length}
 use Rattle.sheet_line.specs.declared.texts.TextCall.{TextCall}
-use Rattle.sheet_line.specs.Reading.{call_in, with_text, call_text, reading, reading_of, read_into}
+use Rattle.sheet_line.specs.Reading.{with_text, call_text, reading, reading_of, read_into}
 
 -- the text of a call that has one
 text_of : (t : TextCall) (s : List ℕ) → call_text (with_text t s) ≡ s
@@ -27,7 +28,7 @@ module _ (t : TextCall) (b a : List ℕ) (room : length a ≤ 2 * length b) (x :
   unfolding read_hex
   read_false h = rw h at e
 
-  pub text-read : (n : ℕ) (o : Op) → x ≡ Some n → ((s : List ℕ) → n ≡ length s → call_in (Some o) s ≡ Some (with_text t s))
+  pub text-read : (n : ℕ) (o : Op) → x ≡ Some n → ((s : List ℕ) → n ≡ length s → call_of o s ≡ with_text t s)
       → reading (record { op = o; len = n }) c ≡ read_into b (option_map (with_text t) (from_hex a))
   text-read n o p q = go (is_hex a) refl
     where

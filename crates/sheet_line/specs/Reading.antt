@@ -1,6 +1,5 @@
 -- What reading a line leaves: the call as `run` takes it, its text in a buffer of its own.
 use Rattle.std.specs.Prelude.{List, [], ℕ, length, take, Option, Some, None}
-use Rattle.std.proofs.Math.Option as maybe
 use Rattle.calls.specs.Call.{Call, opens, place, value, sub, endsub, finish, place_name, field}
 use Rattle.str_writer.specs.Value.{Value, integer, char, str, ascii, repeated, whole}
 use Rattle.str_writer.specs.Write.{splice}
@@ -11,15 +10,10 @@ use Rattle.sheet_line.specs.declared.Parsed.{Parsed}
 use Rattle.sheet_line.specs.declared.texts.TextCall.{TextCall}
 use Rattle.sheet_line.specs.declared.texts.TextCall.TheVariants.{Open, Field, Str}
 
--- the same option, as the code has it
-abbrev pub option_from : {A : Type 0} → maybe.Option A → Option A
-option_from maybe.none = None
-option_from (maybe.some x) = Some x
-
 -- 'The call sheet': the call that was read, if one was
 abbrev pub call_in : Option Op → List ℕ → Option Call
 call_in None s = None
-call_in (Some o) s = option_from (call_of o s)
+call_in (Some o) s = Some (call_of o s)
 
 -- 'The call sheet': the call that an opening with a name, a field of a struct or a string is
 abbrev pub with_text : TextCall → List ℕ → Call
@@ -57,7 +51,7 @@ pub record Reading : Type 0 where
 
 -- 'The call sheet': the same of what a reading answers and the bytes as it returns
 abbrev pub reading : Parsed → List ℕ → Reading
-reading r b = record { call = option_from (call_of r.op (take r.len b)); len = r.len; bytes = b }
+reading r b = record { call = Some (call_of r.op (take r.len b)); len = r.len; bytes = b }
 
 -- 'The call sheet': the same of what may have been read
 abbrev pub reading_of : Option Parsed → List ℕ → Reading

@@ -9,7 +9,7 @@ mod texts;
 ghost use Rattle.std.specs.Prelude.{◌≡◌, List, ℕ, [], ◌*◌, ◌≤◌, length};
 ghost use Rattle.sheet_line.specs.Line.{one_field, open_bare, two_fields, open_named, typed_call, three_fields, call_fields, call_of_line};
 ghost use Rattle.fields.specs.Fields.{fields};
-ghost use Rattle.sheet_line.specs.Reading.{call_in, reading, reading_of, read_into};
+ghost use Rattle.sheet_line.specs.Reading.{call_in, reading_of, read_into};
 
 pub use begin::{BadBegin, Begin, MAX_SIZE, parse_begin};
 use calls::Kind;
@@ -21,8 +21,7 @@ use texts::{TextCall, with_text};
 use value_writes::Form;
 use writer_backend::PlaceKind;
 
-// A call as it was read from a line, `Op::Nothing` for a line of another form, and how long its
-// text is.
+// A call as it was read from a line, and how long its text is.
 #[derive(Clone, Copy)]
 pub struct Parsed {
     pub op: Op,
@@ -127,18 +126,14 @@ fn line_fields(l: &[u8], text: &mut [u8]) -> Option<Parsed>
     }
 }
 
-// The call that a line means. Its text stands at the beginning of `text`, the rest of which is left
-// as it is.
+// The call that a line means, none for a line of another form. Its text stands at the beginning of
+// `text`, the rest of which is left as it is.
 #[tactic(auto, using(std::proofs::lemmas::Bool::Decides::nat_tests), unfolding(crate::specs::Line::call_of_line))]
-pub fn parse_line(l: &[u8], text: &mut [u8; 2048]) -> Parsed
-    ensures { reading result text.new ≡ read_into text.old (call_of_line l.now) }
+pub fn parse_line(l: &[u8], text: &mut [u8; 2048]) -> Option<Parsed>
+    ensures { reading_of result text.new ≡ read_into text.old (call_of_line l.now) }
 {
-    let no_call = Parsed {
-        op: Op::Nothing,
-        len: 0,
-    };
     if MAX_LINE < l.len() {
-        return no_call;
+        return None;
     }
-    line_fields(l, text).unwrap_or(no_call)
+    line_fields(l, text)
 }

@@ -1,8 +1,9 @@
 // Calls whose text a line gives in HEX.
-ghost use Rattle.std.specs.Prelude.{◌≡◌, List, ℕ, Some, ◌*◌, ◌≤◌, length};
+ghost use Rattle.std.specs.Prelude.{◌≡◌, List, ℕ, ◌*◌, ◌≤◌, length};
 ghost use Rattle.std.specs.Option.{option_map};
 ghost use Rattle.fields.specs.Hex.{from_hex};
-ghost use Rattle.sheet_line.specs.Reading.{call_in, with_text, reading_of, read_into};
+ghost use Rattle.formatter.specs.Calls.{call_of};
+ghost use Rattle.sheet_line.specs.Reading.{with_text, reading_of, read_into};
 
 use crate::Parsed;
 use calls::Kind;
@@ -22,7 +23,7 @@ pub enum TextCall {
 
 // The call, where its text has len bytes.
 fn op_with(t: TextCall, len: usize) -> Op
-    ensures { (s : List ℕ) → len ≡ length s → call_in (Some result) s ≡ Some (with_text t s) }
+    ensures { (s : List ℕ) → len ≡ length s → call_of result s ≡ with_text t s }
 {
     match t {
         TextCall::Open(k) => Op::Open(k),

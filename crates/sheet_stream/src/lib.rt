@@ -105,11 +105,12 @@ impl State {
             State::First => self.answer_first(l, buf, out, at),
             State::Later { line, size, sheet } => {
                 let answered = sheet.answer_line(*line, &mut buf[..*size], l, text, out, at);
+                let end = answered.print.unwrap_or(at);
                 *line += 1;
                 if !answered.is_call {
                     *self = State::Over;
                 }
-                answered.print.unwrap_or(at)
+                end
             }
             State::Over => at,
         }
@@ -123,7 +124,9 @@ impl State {
     {
         match self {
             State::Later { size, sheet, .. } => {
-                sheet.end(slice_up_to_len(buf, *size), out, at).unwrap_or(at)
+                sheet
+                    .end(slice_up_to_len(buf, *size), out, at)
+                    .unwrap_or(at)
             }
             _ => at,
         }

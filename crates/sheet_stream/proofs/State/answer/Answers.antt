@@ -14,9 +14,9 @@ part_length c =
 pub returns-then-not-answered-clause-answers : goal.returns-then-not-answered-clause-answers
 returns-then-not-answered-clause-answers c =
     let a = c.answer_line-answered in
-    rw (c.in-Later.is, ← goes-on c.args.at a.result.print c.unwrap_or.ensures) (answers-last _ _ _ _ _ _ a.result _ _ _ _ a.ensures.out_after a.ensures.l_len_bound (part_length (goal.at.returns-then-not-answered-clause-answers c).After-answer_line-answered) c.requires.1 (search rules))
+    rw (c.in-Later.is, ← goes-on c.args.at a.result.print c.unwrap_or-end.ensures) (answers-last c.in-Later.line c.in-Later.size c.in-Later.sheet a.new.self c.args.buf.now a.new.buf a.result _ _ _ _ a.ensures.out_after a.ensures.l_len_bound (part_length (goal.at.returns-then-not-answered-clause-answers c).After-answer_line-answered) c.requires.1 (search rules))
 
 pub returns-else-not-answered-clause-answers : goal.returns-else-not-answered-clause-answers
 returns-else-not-answered-clause-answers c =
     let a = c.answer_line-answered in
-    rw (c.in-Later.is, ← goes-on c.args.at a.result.print c.unwrap_or.ensures) (answers-later _ _ _ _ _ _ a.result _ _ _ _ a.ensures.out_after a.ensures.l_len_bound (part_length (goal.at.returns-else-not-answered-clause-answers c).After-answer_line-answered) c.requires.1 (search rules))
+    rw (c.in-Later.is, ← goes-on c.args.at a.result.print c.unwrap_or-end.ensures) (answers-later c.in-Later.line c.in-Later.size c.in-Later.sheet a.new.self c.args.buf.now a.new.buf a.result _ _ _ _ a.ensures.out_after a.ensures.l_len_bound (part_length (goal.at.returns-else-not-answered-clause-answers c).After-answer_line-answered) c.requires.1 (search rules))

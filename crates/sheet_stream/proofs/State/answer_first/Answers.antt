@@ -18,7 +18,7 @@ pub returns-in-Err-Cursor-clause-answers : goal.returns-in-Err-Cursor-clause-ans
 returns-in-Err-Cursor-clause-answers c =
     let a = c.args in
     let e = sym c.parse_begin.ensures ∙ c.in-Err-Cursor.is ∙ ap Err c.in-Err-Cursor.field-0-is in
-    rw (goes-on a.at c.put_refused.result c.unwrap_or.ensures) at (answers-over first a.l.now a.out.now _ a.at refused_text _ (begin-refused a.l.now e) c.put_refused.ensures (omega arith) c.requires.1)
+    rw (goes-on a.at c.put_refused.result c.unwrap_or-in-Err-Cursor.ensures) at (answers-over first a.l.now a.out.now _ a.at refused_text _ (begin-refused a.l.now e) c.put_refused.ensures (omega arith) c.requires.1)
 
 pub returns-in-Ok-clause-answers : goal.returns-in-Ok-clause-answers
 returns-in-Ok-clause-answers c =
