@@ -1,83 +1,72 @@
-// Writes of integers. The place k of a name is twice that of its type among u8, u16, u32, u64, i8,
-// i16, i32 and i64, and one more for the debug form.
+// Writes of integers.
 use error::Error;
 use fields::number;
 use formatter::Formatter;
-use std::num::TryFromIntError;
 use value_writes::{Form, IntegerValue};
 
-// A value in a form, if its type has it.
+// A value in a form.
 fn written<I: IntegerValue>(
     fmt: &mut Formatter,
     buf: &mut [u8],
     form: Form,
-    value: Result<I, TryFromIntError>,
-) -> Option<Result<(), Error>> {
-    let x = value.ok()?;
-    Some(match form {
+    x: I,
+) -> Result<(), Error> {
+    match form {
         Form::Display => fmt.write_display(buf, x),
         Form::Debug => fmt.write_debug(buf, x),
-    })
-}
-
-// n as a value of the unsigned type at place t.
-fn unsigned(
-    fmt: &mut Formatter,
-    buf: &mut [u8],
-    form: Form,
-    t: usize,
-    n: u64,
-) -> Option<Result<(), Error>> {
-    match t {
-        0 => written(fmt, buf, form, u8::try_from(n)),
-        1 => written(fmt, buf, form, u16::try_from(n)),
-        2 => written(fmt, buf, form, u32::try_from(n)),
-        _ => written(fmt, buf, form, Ok(n)),
     }
 }
 
-// x as a value of the signed type at place t.
-fn signed(
-    fmt: &mut Formatter,
-    buf: &mut [u8],
-    form: Form,
-    t: usize,
-    x: i64,
-) -> Option<Result<(), Error>> {
-    match t {
-        4 => written(fmt, buf, form, i8::try_from(x)),
-        5 => written(fmt, buf, form, i16::try_from(x)),
-        6 => written(fmt, buf, form, i32::try_from(x)),
-        _ => written(fmt, buf, form, Ok(x)),
-    }
+// The number that a field is in decimal.
+fn read_unsigned(s: &[u8]) -> Option<u64> {
+    number(s, u64::MAX)
 }
 
 // The number that a field is in decimal, behind a minus or not, if an i64 has it.
-fn signed_number(s: &[u8]) -> Option<i64> {
+fn read_signed(s: &[u8]) -> Option<i64> {
     match s {
-        [b'-', digits @ ..] => {
-            let n = number(digits, u64::MAX)?;
-            Some(!i64::try_from(n.checked_sub(1)?).ok()?)
-        }
-        _ => i64::try_from(number(s, u64::MAX)?).ok(),
+        [b'-', digits @ ..] => Some(!i64::try_from(read_unsigned(digits)?.checked_sub(1)?).ok()?),
+        _ => i64::try_from(read_unsigned(s)?).ok(),
     }
 }
 
-// `VALUE`, a value of its type.
+// The value that a field is in decimal, if the type of that name has it.
+fn call(
+    fmt: &mut Formatter,
+    buf: &mut [u8],
+    form: Form,
+    t: &[u8],
+    s: &[u8],
+) -> Option<Result<(), Error>> {
+    Some(match t {
+        b"u8" => written(fmt, buf, form, u8::try_from(read_unsigned(s)?).ok()?),
+        b"u16" => written(fmt, buf, form, u16::try_from(read_unsigned(s)?).ok()?),
+        b"u32" => written(fmt, buf, form, u32::try_from(read_unsigned(s)?).ok()?),
+        b"u64" => written(fmt, buf, form, read_unsigned(s)?),
+        b"i8" => written(fmt, buf, form, i8::try_from(read_signed(s)?).ok()?),
+        b"i16" => written(fmt, buf, form, i16::try_from(read_signed(s)?).ok()?),
+        b"i32" => written(fmt, buf, form, i32::try_from(read_signed(s)?).ok()?),
+        b"i64" => written(fmt, buf, form, read_signed(s)?),
+        _ => return None,
+    })
+}
+
+// `write_TYPE_display` or `write_TYPE_debug` with `VALUE`, a value of its type.
 pub(crate) fn integer_call(
     fmt: &mut Formatter,
     buf: &mut [u8],
-    k: usize,
+    name: &[u8],
     arguments: &[u8],
 ) -> Option<Result<(), Error>> {
-    let t = k / 2;
-    let form = if k % 2 == 1 {
-        Form::Debug
-    } else {
-        Form::Display
-    };
-    if t < 4 {
-        return unsigned(fmt, buf, form, t, number(arguments, u64::MAX)?);
+    let typed = name.strip_prefix(b"write_")?;
+    if let Some(t) = typed.strip_suffix(b"_display") {
+        return call(fmt, buf, Form::Display, t, arguments);
     }
-    signed(fmt, buf, form, t, signed_number(arguments)?)
+    call(
+        fmt,
+        buf,
+        Form::Debug,
+        typed.strip_suffix(b"_debug")?,
+        arguments,
+    )
 }

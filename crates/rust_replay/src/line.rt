@@ -1,5 +1,6 @@
 // A line is read, its run is played, and what that gives is compared with what the line has.
 use calls::Settings;
+use error::{Error, answer_number};
 use fields::{first_field, from_hex, later_fields, number, put_hex, put_number};
 use formatting::flags_of;
 use lines::MAX_LINE;
@@ -26,13 +27,14 @@ fn fill(buf: &mut [u8]) {
 
 // Lays what a run gave into out as the last fields of a line: the first refusal and the total of
 // counting, the first refusal and the cursor of writing, the buffer.
-fn put_given(counted: Ran, written: Ran, buf: &[u8], out: &mut [u8]) -> usize {
-    let refusal = put_number(out, 0, counted.first as u64, b',');
-    let total = put_number(out, refusal.at, counted.number as u64, b',');
-    let refused = put_number(out, total.at, written.first as u64, b',');
-    let cursor = put_number(out, refused.at, written.number as u64, b',');
-    let bytes = put_hex(out, cursor.at, buf);
-    bytes.at
+fn put_given(counted: Ran, written: Ran, buf: &[u8], out: &mut [u8]) -> Result<usize, Error> {
+    let refusal = u64::from(answer_number(counted.answer()));
+    let refused = u64::from(answer_number(written.answer()));
+    let end = put_number(out, 0, refusal, b',')?;
+    let end = put_number(out, end, counted.number as u64, b',')?;
+    let end = put_number(out, end, refused, b',')?;
+    let end = put_number(out, end, written.number as u64, b',')?;
+    put_hex(out, end, buf)
 }
 
 // Whether the run of a line gives what const_format gave, if the line has the form of one. Its flags
@@ -59,6 +61,6 @@ pub(crate) fn is_same(line: &[u8]) -> Option<bool> {
     fill(buf);
     let counted = count_run(settings, words, text);
     let written = write_run(settings, buf, cursor as usize, words, text);
-    let end = put_given(counted, written, buf, &mut given);
+    let end = put_given(counted, written, buf, &mut given).ok()?;
     Some(later_fields(texts) == slice_up_to_len(&given, end))
 }

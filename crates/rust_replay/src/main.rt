@@ -4,6 +4,7 @@
 
 mod line;
 
+use error::Error;
 use fields::put_number;
 use line::is_same;
 use line_input::{LineProgram, answer_lines};
@@ -26,19 +27,24 @@ impl LineProgram for Replay {
             return 0;
         }
         self.differ = self.differ.saturating_add(1);
-        let word = write_ascii(out, 0, b"line ");
-        let place = put_number(out, word.at, self.replayed, b' ');
-        write_ascii(out, place.at, b"differs\n").at
+        self.put_differs(out).unwrap_or(0)
     }
 }
 
 impl Replay {
+    // Lays that the line differs: the end of what is printed.
+    fn put_differs(&self, out: &mut [u8]) -> Result<usize, Error> {
+        let end = write_ascii(out, 0, b"line ")?;
+        let end = put_number(out, end, self.replayed, b' ')?;
+        write_ascii(out, end, b"differs\n")
+    }
+
     // Lays the last line: the end of what is printed.
-    fn put_last(&self, out: &mut [u8]) -> usize {
-        let count = put_number(out, 0, self.replayed, b' ');
-        let word = write_ascii(out, count.at, b"replayed, ");
-        let different = put_number(out, word.at, self.differ, b' ');
-        write_ascii(out, different.at, b"differ\n").at
+    fn put_last(&self, out: &mut [u8]) -> Result<usize, Error> {
+        let end = put_number(out, 0, self.replayed, b' ')?;
+        let end = write_ascii(out, end, b"replayed, ")?;
+        let end = put_number(out, end, self.differ, b' ')?;
+        write_ascii(out, end, b"differ\n")
     }
 }
 
@@ -50,6 +56,6 @@ fn main(rt: HostRuntime) -> io::Result<()> {
     let mut output = rt.stdout();
     answer_lines(&mut replay, &mut rt.stdin(), &mut output)?;
     let mut last = [0u8; 80];
-    let end = replay.put_last(&mut last);
+    let end = replay.put_last(&mut last).unwrap_or(0);
     output.write_all(slice_up_to_len(&last, end))
 }

@@ -1,7 +1,7 @@
 // Calls through the lent writer: several to a line.
 use crate::print::Printed;
+use error::answer_number;
 use fields::{first_field, from_hex, later_fields, number};
-use str_writer::Written;
 use str_writer_mut::{Truncated, write_str_then_debug, write_str_then_truncate};
 use utils::slice_up_to_len;
 
@@ -19,31 +19,18 @@ pub(crate) fn twice_call(
     let m = from_hex(later_fields(arguments), &mut second_space)?;
     let s = slice_up_to_len(&first_space, n);
     let w = write_str_then_debug(buf, at, s, slice_up_to_len(&second_space, m));
-    let first = w.first;
-    let answer = w.second;
-    out.cell(b"", u64::from(first.number()), b' ');
-    out.result(Written { at: w.at, answer }, buf);
+    out.cell(b"", u64::from(answer_number(w.first)), b' ');
+    out.outcome(b"", w.second, w.at, b' ');
+    out.bytes(buf);
     Some(())
 }
 
 // Lays the answer to the write, for each truncation its answer and the cursor after it, and the bytes
 // of the buffer.
 fn put_truncated(r: Truncated, buf: &[u8], out: &mut Printed) {
-    let Truncated {
-        written,
-        plain,
-        len,
-        utf8,
-        at,
-    } = r;
-    let after_plain = Written {
-        at: len,
-        answer: plain,
-    };
-    let after_utf8 = Written { at, answer: utf8 };
-    out.cell(b"", u64::from(written.number()), b',');
-    out.outcome(b" truncate: ", after_plain, b',');
-    out.outcome(b" utf8: ", after_utf8, b' ');
+    out.cell(b"", u64::from(answer_number(r.written)), b',');
+    out.outcome(b" truncate: ", r.plain, r.len, b',');
+    out.outcome(b" utf8: ", r.utf8, r.at, b' ');
     out.bytes(buf);
 }
 
