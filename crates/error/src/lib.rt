@@ -27,7 +27,8 @@ impl From<Error> for u8 {
     }
 }
 
-// The number by which document 01 names an answer: 0 where nothing was met.
+// The number by which document 01 names an answer: 0 where nothing was met. A function, since a crate
+// gives no From between types that are not its own.
 pub fn answer_number(answer: Result<(), Error>) -> u8
     ensures { result ≡ answer_number answer }
 {

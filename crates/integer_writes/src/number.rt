@@ -60,7 +60,8 @@ fn put_mark(buf: &mut [u8], at: usize, mark: Mark)
     }
 }
 
-// Lays the digits of n in a base, the last right before end.
+// Lays the digits of n in a base, the last right before end: by a loop until nothing of the number is
+// left, as document 01 has digits laid.
 fn lay_digits<const BASE: u64>(buf: &mut [u8], end: usize, n: u64, hex_fmt: HexFormatting)
     requires base { (2 ≤ BASE) × (BASE ≤ 16) }
     requires room { (length (digit_text (hex_digit hex_fmt) BASE n) ≤ end) × (end ≤ length buf.old) }

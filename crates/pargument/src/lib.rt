@@ -19,7 +19,8 @@ pub struct Integer {
     pub mask: u64,
 }
 
-// A text written from the end of an array: the place of its first byte. The bytes before are zero.
+// A text written from the end of an array, as document 01 has it: the place of its first byte. The bytes
+// before are zero.
 #[derive(Clone, Copy)]
 pub struct StartAndArray<const N: usize> {
     pub start: usize,

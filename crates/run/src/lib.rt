@@ -1,5 +1,6 @@
 // Runs as data: a list of calls as numbers over a pool of texts, counted or written whole. The stack
-// of open entries is a local array that is lent to the calls.
+// of open entries is a local array that is lent to the calls. Buffer and cursor, words and pool stand
+// side by side, as a caller in another language has them.
 #![tactic(auto)]
 
 ghost use Rattle.std.specs.Prelude.{◌≡◌, [], set, None};
@@ -24,7 +25,8 @@ pub struct Refusal {
     pub place: usize,
 }
 
-// The end of a run: its first refusal, its total or cursor, and how many entries are open.
+// The end of a run: its first refusal, and its total or cursor and how many entries are open, which
+// are there whatever was refused.
 #[derive(Clone, Copy)]
 pub struct Ran {
     pub first: Option<Refusal>,

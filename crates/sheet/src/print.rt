@@ -1,4 +1,5 @@
-// What a sheet prints: a row, `bad`, a refused `begin`, and the last line.
+// What a sheet prints: a row, `bad`, a refused `begin`, and the last line, each at a cursor into a lent
+// slice, as crate str_writer writes.
 ghost use Rattle.std.specs.Prelude.{◌≡◌, ◌≤◌, length};
 ghost use Rattle.str_writer.specs.Write.{outcome, written};
 ghost use Rattle.str_writer.specs.Write.{put as put_text};

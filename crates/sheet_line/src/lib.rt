@@ -21,7 +21,8 @@ use texts::{TextCall, with_text};
 use value_writes::Form;
 use writer_backend::PlaceKind;
 
-// A call as it was read from a line, and how long its text is.
+// A call as it was read from a line, and how long its text is. The text is lent beside it: a call that
+// held it could not say what the lent bytes are afterwards.
 #[derive(Clone, Copy)]
 pub struct Parsed {
     pub op: Op,

@@ -32,7 +32,8 @@ fn op_with(t: TextCall, len: usize) -> Op
     }
 }
 
-// Reads the text to the beginning of a buffer.
+// Reads the text to the beginning of a buffer. Line and buffer are lent apart, so that the room for the
+// text stands in the contracts of those that read one.
 pub(crate) fn with_text(t: TextCall, a: &[u8], text: &mut [u8]) -> Option<Parsed>
     requires { length a.now ≤ 2 * length text.old }
     ensures { reading_of result text.new ≡ read_into text.old (option_map (with_text t) (from_hex a.now)) }

@@ -37,7 +37,8 @@ pub enum State {
 }
 
 // What is held between steps: what is read of the input, where the sheet stands, and how many bytes
-// are printed and not yet written.
+// are printed and not yet written. They stand in a buffer that is lent to each step: its owner writes
+// it out between two.
 #[derive(Clone, Copy)]
 pub struct Stream {
     pub reader: Reader,

@@ -219,7 +219,10 @@ fn count_str_debug(total: &mut usize, s: &[u8]) -> Result<(), Error>
 {
     str_fault(s)?;
     let end = s.len();
-    add(total, compute_utf8_debug_len_in_range(s, Range { start: 0, end })?)
+    add(
+        total,
+        compute_utf8_debug_len_in_range(s, Range { start: 0, end })?,
+    )
 }
 
 // Counts a string, quoted.

@@ -23,8 +23,8 @@ use quoted_writes::{
     write_ascii_debug, write_ascii_range_debug, write_str_debug, write_str_range_debug,
 };
 use str_writer::{
-    cursor_fault, truncate, truncate_utf8, write_ascii, write_ascii_range,
-    write_ascii_repeated, write_char, write_char_debug, write_str, write_str_range,
+    cursor_fault, truncate, truncate_utf8, write_ascii, write_ascii_range, write_ascii_repeated,
+    write_char, write_char_debug, write_str, write_str_range,
 };
 use utils::Range;
 
