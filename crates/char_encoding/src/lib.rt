@@ -16,7 +16,8 @@ pub struct Utf8Char {
     pub bytes: [u8; 4],
 }
 
-// A character's display or quoted form; the bytes from len on are zero.
+// A character's display or quoted form in an array, as document 01 has it; the bytes from len on are
+// zero.
 #[derive(Clone, Copy)]
 pub struct FmtChar {
     pub len: usize,

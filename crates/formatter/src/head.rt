@@ -1,6 +1,6 @@
 // A formatter without its stack of open entries and the buffer, which are lent beside it: in one
 // struct with them a run takes 5 to 12 % more.
-ghost use Rattle.std.specs.Prelude.{◌≡◌, List, ℕ, length};
+ghost use Rattle.std.specs.Prelude.{◌≡◌, ◌≤◌, List, ℕ, length};
 ghost use Rattle.calls.specs.Model.{start};
 ghost use Rattle.writer_backend.specs.Output.{mode_of};
 ghost use Rattle.formatter.specs.View.{depth_of, view};
@@ -46,6 +46,7 @@ impl Head {
     pub fn open_entries(&self) -> usize
         ensures by_index { (s : List Entry) (b : List ℕ) → length s ≡ 64 → result ≡ length (view self.now s b).stack }
         ensures value { result ≡ depth_of self.now.depth }
+        ensures at_most { result ≤ 64 }
     {
         self.depth.min(64)
     }

@@ -39,7 +39,7 @@ pub fn bit(b: bool) -> u64
     u64::from(b)
 }
 
-// The flags that a number is.
+// The flags that a number is, for every number; `try_from` takes those below 12 alone.
 pub fn flags_of(n: u64) -> FormattingFlags
     ensures { result ≡ flags_of n }
 {

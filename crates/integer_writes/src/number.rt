@@ -14,7 +14,7 @@ use formatting::{FormattingFlags, HexFormatting, NumberFormatting, hex_as_ascii}
 use pwrapper::{binary_len, decimal_len, hexadecimal_len};
 use str_writer::{cursor_fault, room_fault};
 
-// What stands before the digits of a number.
+// What stands before the digits of a number: one of three, so no Option.
 #[derive(Clone, Copy)]
 enum Mark {
     Nothing,

@@ -39,7 +39,8 @@ pub fn to_integer<I: PrimitiveInteger>(x: I) -> Integer
 }
 
 impl<const N: usize> StartAndArray<N> {
-    // The digits of n in a base, at the end of an array that has room for them.
+    // The digits of n in a base, at the end of an array that has room for them: by a loop that gives
+    // their start, as document 01 has it.
     fn digits<const BASE: u64>(n: u64, hex_fmt: HexFormatting) -> StartAndArray<N>
         requires base { (2 ≤ BASE) × (BASE ≤ 16) }
         requires room { length (digit_text (hex_digit hex_fmt) BASE n) ≤ N }

@@ -108,6 +108,7 @@ fn play(
         note(first, answer, k);
         store(answers, k, answer);
     }
+    // Counted on the slice of them: the length of a lent array is not kept through the loop.
     End {
         number: head.writer.number,
         entries: stack[..head.open_entries()].len(),

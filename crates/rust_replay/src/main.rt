@@ -20,7 +20,8 @@ struct Replay {
 }
 
 impl LineProgram for Replay {
-    // Lays that a line differs, or nothing where it does not. A line of another form differs.
+    // Lays that a line differs, or nothing where it does not: 0, as `LineProgram` has it. A line of
+    // another form differs.
     fn answer(&mut self, line: &[u8], out: &mut [u8]) -> usize {
         self.replayed = self.replayed.saturating_add(1);
         if is_same(line).unwrap_or(false) {

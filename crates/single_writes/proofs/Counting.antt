@@ -1,20 +1,24 @@
 -- A value's length added to a total, and a refusal in its place.
 use mathlib.Core.Path.{◌≡◌, refl, ◌∙◌}
 use mathlib.Core.List.{List, []}
-use Prim.Native.Nat.{ℕ}
+use Prim.Native.Nat.{ℕ, ◌+◌, ◌^◌, ◌≤◌}
+use native.Mathlib.Omega.{arith}
+use borrow.Author.Tests.{lt-ltb, ltb-false}
 use lib.IntN.{ℤ}
 use lib.ListN.{length}
-use Rattle.std.specs.Prelude.{Bool, true, false, cond, Result, Ok, Err}
+use Rattle.std.specs.Prelude.{Bool, true, false, cond, nat_lt, Result, Ok, Err}
 use Rattle.error.specs.declared.Error.{Error}
+use Rattle.error.specs.declared.Error.TheVariants.{CountTooLarge}
 use Rattle.error.specs.Answer.{number_of, fault_number}
 use Rattle.formatting.specs.Flags.{default_flags}
 use Rattle.formatting.specs.declared.flags.FormattingFlags.{FormattingFlags}
 use Rattle.formatting.specs.declared.flags_as_number.NotFlags.{NotFlags}
 use Rattle.formatting.specs.FlagsAsNumber.{are_flags, flags_of, checked_flags}
 use Rattle.str_writer.specs.Value.{Form, Value, integer, text_of, input_fault}
-use Rattle.calls.specs.Model.{PieceOutcome, to, counting, put_in}
+use Rattle.pwrapper.specs.QuotedCount.{count_of}
+use Rattle.calls.specs.Model.{PieceOutcome, to, counting, most, put_in}
 use Rattle.value_writes.specs.Values.{value_out}
-use Rattle.value_writes.proofs.ValueLaws.{judged_input, judged_counting, value-refused, value-emitted}
+use Rattle.value_writes.proofs.ValueLaws.{judged_counting, value_within, judged-emitted, input-refused}
 use Rattle.single_writes.specs.ByFlags.{by_flags, from}
 
 -- it is that integer counted
@@ -26,10 +30,21 @@ counts-integer t f m k z h e = h (text_of f (integer m k z)) e
 -- a value that meets nothing but a boundary is counted, one that meets a fault is refused with it
 module _ (t : ℕ) (v : Value) where
   pub counted-value : 0 ≡ fault_number (input_fault v) → {r : PieceOutcome} → r ≡ put_in (counting t) [] (text_of default_flags v) → r ≡ value_out (from t) [] default_flags v
-  counted-value z e = e ∙ value-emitted (from t) [] default_flags v refl (judged_counting (counting t) v refl z)
+  counted-value z e = e ∙ judged-emitted (from t) [] default_flags v (judged_counting (counting t) v refl z) ∙ value_within (from t) [] default_flags v refl
 
   pub refused-value : (e : Error) → number_of e ≡ fault_number (input_fault v) → to (counting t) [] (number_of e) ≡ value_out (from t) [] default_flags v
-  refused-value e p = value-refused (from t) [] default_flags v refl e (judged_input (counting t) v e p)
+  refused-value e p = input-refused (from t) [] default_flags v e p ∙ value_within (from t) [] default_flags v refl
+
+-- a text that has more than 2^64 - 1 bytes is refused with 6
+pub count-refused : (t : List ℕ) (e : Error) → Err e ≡ count_of (length t) → (n : ℕ) → to (counting n) [] (number_of e) ≡ put_in (counting n) [] t
+count-refused t e q n = go (nat_lt (length t) (2 ^ 64)) refl q
+  where
+    go : (x : Bool) → nat_lt (length t) (2 ^ 64) ≡ x → ◌≡◌ {A = Result ℕ Error} (Err e) (cond x (Ok (length t)) (Err CountTooLarge)) → to (counting n) [] (number_of e) ≡ put_in (counting n) [] t
+    go true h k = cc k
+    go false h k =
+        let z : e ≡ CountTooLarge = cc k in
+        let l : 2 ^ 64 ≤ length t = ltb-false (length t) (2 ^ 64) h in
+        rw (z, lt-ltb most (n + length t) (omega arith)) refl
 
 -- what flags tell that are a number: what is done by them, or what stands where they are none
 module _ {A : Type 0} (n : ℕ) (r : A) (o : FormattingFlags → A) where

@@ -1,6 +1,6 @@
 // A static library of single calls, for the comparison with the Rust: each export of this kind in
-// the library of whole runs would keep the compiler from making one loop of a run. A slice passes as
-// a pointer and a length. The answer is document 01's number; flags are a number as in table_text,
+// the library of whole runs would keep the compiler from making one loop of a run. There is one export
+// for each type of integer, as C names them. A slice passes as a pointer and a length. The answer is document 01's number; flags are a number as in table_text,
 // and one that is not below 12 is refused with 8, after 9.
 #![tactic(auto)]
 

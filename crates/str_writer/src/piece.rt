@@ -35,7 +35,7 @@ fn copy_few(buf: &mut [u8], at: usize, s: &[u8])
     buf[at + 3] = s[3];
 }
 
-// Copies s into buf from at on.
+// Copies s into buf from at on. The two are lent apart: that there is room stands in the contract.
 fn copy_at(buf: &mut [u8], at: usize, s: &[u8])
     requires { at + length s.now ≤ length buf.old }
     ensures { buf.new ≡ splice buf.old at s.now }

@@ -17,8 +17,8 @@ const WRITING: u64 = 0;
 const COUNTING: u64 = 1;
 
 // The number is the cursor where text is written, the total where it is counted. The mode is a
-// number too, since whole words go round a run's loop in registers, and a caller in another language
-// makes one: every number is a mode, by its remainder.
+// number too, as document 01 names it; of one byte, it took 1.07 of the instructions of a run. Every
+// number is a mode, by its remainder.
 #[derive(Clone, Copy)]
 pub struct WriterBackend {
     pub mode: u64,

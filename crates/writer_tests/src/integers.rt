@@ -5,6 +5,7 @@ use formatting::{FormattingFlags, HexFormatting, NumberFormatting};
 use integer_writes::{write_debug, write_display};
 use pwrapper::PrimitiveInteger;
 
+// Displayed is a form of its own, so no Option of flags.
 #[derive(Clone, Copy)]
 enum Form {
     Display,
