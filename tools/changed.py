@@ -3,9 +3,10 @@
 
 It prints tables, old and new side by side, from the JSON of the kit's port/contracts.py.
 """
-import html, json, re, subprocess, sys, tempfile
+import html, json, os, re, shutil, subprocess, sys, tempfile
 
-KIT = '/opt/rattle/port/contracts.py'
+# Beside the kit's rt.
+KIT = os.path.join(os.path.dirname(os.path.realpath(shutil.which('rt'))), '..', 'port', 'contracts.py')
 
 
 def cell(text):
