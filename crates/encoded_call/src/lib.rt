@@ -17,6 +17,7 @@ use utils::Range;
 use value_writes::{Form, Integer, PVariant, Width, greatest};
 use writer_backend::PlaceKind;
 
+// The width that a number is, as another language lays it.
 fn width_at(n: u64) -> Option<Width>
     ensures { result ≡ width_at n }
 {
@@ -76,6 +77,7 @@ fn repeated_at(a: u64, b: u64) -> Option<Op>
     Some(Op::Value(PVariant::Repeated(c, b as usize)))
 }
 
+// A value by its number, as another language lays it.
 #[tactic(auto, unfolding(crate::specs::Encoding::value_at))]
 fn value_op(o: u64, a: u64, b: u64) -> Option<Op>
     ensures { result ≡ value_at o a b }
@@ -100,7 +102,8 @@ fn value_op(o: u64, a: u64, b: u64) -> Option<Op>
     }
 }
 
-// What the first word of a call asks for, with the two numbers that the call has, if it is a call.
+// What the first word of a call asks for, with the two numbers that the call has, if it is a call: a
+// number, as another language lays it.
 #[tactic(auto, unfolding(crate::specs::Encoding::op_at))]
 pub fn op_at(o: u64, a: u64, b: u64) -> Option<Op>
     ensures { result ≡ op_at o a b }

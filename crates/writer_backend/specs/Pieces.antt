@@ -1,7 +1,8 @@
 -- Pieces tried one after another from a refusal already held, what they add to a total, and the place that a field or an entry is.
 use Rattle.std.specs.Prelude.{Bool, true, false, List, [], ◌∷◌, ℕ, ◌+◌, length}
-use Rattle.calls.specs.Call.{Place, field, item, entry, spaces, hold}
+use Rattle.calls.specs.Call.{Place, field, item, entry, place_pieces, spaces, hold}
 use Rattle.calls.specs.Model.{PieceOutcome, put}
+use Rattle.writer_backend.specs.declared.record.Builder.{Builder}
 use Rattle.writer_backend.specs.declared.record.PlaceKind.{PlaceKind}
 use Rattle.writer_backend.specs.declared.record.PlaceKind.TheVariants.{Field, Item}
 use Rattle.writer_backend.specs.declared.record.PlaceKind.TheVariants as place-kind
@@ -30,3 +31,7 @@ abbrev pub place_of : PlaceKind → List ℕ → Place
 place_of Field s = field s
 place_of Item s = item
 place_of place-kind.Entry s = entry
+
+-- Document 01, 'A nested record', field or entry: what goes before one of a builder: the first separator if it has no field, else the later one; in alternate form the margin; for structs then name and `: `
+abbrev pub pieces_before : Builder → Bool → ℕ → Place → List (List ℕ)
+pieces_before B alt m x = place_pieces B.kind B.has_field alt m x

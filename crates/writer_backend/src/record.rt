@@ -5,7 +5,7 @@ ghost use Rattle.utf8.specs.Utf8.{well_formed};
 ghost use Rattle.calls.specs.Call.{name_of, place_name, of_kind, place, a_builder, call_fault, open_pieces, place_pieces, label_pieces, close_pieces};
 ghost use Rattle.calls.specs.Model.{stops, tries};
 ghost use Rattle.writer_backend.specs.Output.{output_of, put_out, held_number, held_out};
-ghost use Rattle.writer_backend.specs.Pieces.{try_all, length_of, margin_pieces, place_of};
+ghost use Rattle.writer_backend.specs.Pieces.{try_all, length_of, margin_pieces, place_of, pieces_before};
 
 use crate::pieces::WriterBackend;
 use crate::words::{bracket, empty_close, plain_close, separator};
@@ -64,7 +64,7 @@ impl WriterBackend {
         name: &[u8],
     )
         ensures pieces { held_out builder.new.held self.new buf.new
-            ≡ try_all (held_out builder.old.held self.old buf.old) (place_pieces builder.old.kind builder.old.has_field is_alternate margin (place_of place name.now)) }
+            ≡ try_all (held_out builder.old.held self.old buf.old) (pieces_before builder.old is_alternate margin (place_of place name.now)) }
         ensures builder_after { (builder.new.kind ≡ builder.old.kind) × (builder.new.has_field ≡ true) }
     {
         let Builder {
