@@ -3,9 +3,10 @@
 #![tactic(auto)]
 
 ghost use Rattle.std.specs.Prelude.{◌≡◌, [], eqb};
+ghost use Rattle.std.specs.Option.{option_map};
 ghost use Rattle.error.specs.Answer.{answer_number};
-ghost use Rattle.calls.specs.Model.{counting, step};
-ghost use Rattle.formatter.specs.Calls.{call_of};
+ghost use Rattle.calls.specs.Model.{counting};
+ghost use Rattle.formatter.specs.Calls.{call_of, step_or};
 ghost use Rattle.encoded_call.specs.Encoding.{decode};
 ghost use Rattle.run.specs.Played.{played};
 ghost use Rattle.compute_str_length.specs.Total.{Added, add_to, counting_at, CountsCall, CountsCallThenLen, CountsRun, CountsThenAdds};
@@ -52,20 +53,24 @@ impl ComputeStrLength {
         self.len == 0
     }
 
-    // Counts one call of a formatter on from the total: the head's own mode says nothing.
+    // Counts one call of a formatter on from the total: the head's own mode says nothing. What is no
+    // call, None, meets 8 and adds nothing.
     pub fn count_call(
         &mut self,
         head: &mut Head,
         stack: &mut [Entry; 64],
-        op: Op,
+        op: Option<Op>,
         text: &[u8],
     ) -> Result<(), Error>
         ensures { CountsCall result head.new stack.new self.new.len
-            (step (counting_at self.old.len head.old stack.old) (call_of op text.now)) }
+            (step_or (counting_at self.old.len head.old stack.old) (option_map (λ o. call_of o text.now) op)) }
     {
         head.writer = WriterBackend::counting(self.len);
         let mut none = [0u8; 0];
-        let answer = head.call(stack, &mut none, op, text);
+        let answer = match op {
+            Some(op) => head.call(stack, &mut none, op, text),
+            None => head.no_call(&none),
+        };
         self.len = head.writer.number;
         answer
     }
@@ -121,14 +126,16 @@ pub struct CountedCall {
 }
 
 // One call counted on from a total, through a counter that is then read: plain parameters, as above.
+// What is no call, None, meets 8.
 pub fn count_call_then_len(
     total: usize,
     head: Head,
     stack: &mut [Entry; 64],
-    op: Op,
+    op: Option<Op>,
     text: &[u8],
 ) -> CountedCall
-    ensures { CountsCallThenLen result stack.new (step (counting_at total head stack.old) (call_of op text.now)) }
+    ensures { CountsCallThenLen result stack.new
+        (step_or (counting_at total head stack.old) (option_map (λ o. call_of o text.now) op)) }
 {
     let mut c = ComputeStrLength { len: total };
     let mut head = head;

@@ -1,5 +1,6 @@
 // A formatter with its stack of open entries. The buffer is lent beside it.
 ghost use Rattle.std.specs.Prelude.{◌≡◌, List, ℕ};
+ghost use Rattle.error.specs.declared.Error.TheVariants.{BadCursor};
 ghost use Rattle.calls.specs.Model.{step, start, counting};
 ghost use Rattle.writer_backend.specs.Output.{mode_of};
 ghost use Rattle.formatter.specs.Calls.{call_of};
@@ -17,6 +18,21 @@ use writer_backend::WriterBackend;
 pub struct Formatter {
     pub head: Head,
     pub stack: [Entry; 64],
+}
+
+// A cursor past the end of the buffer, with the fresh formatter that writes from it: each of its calls
+// over that buffer answers 9.
+#[derive(Clone, Copy)]
+pub struct PastEnd {
+    pub formatter: Formatter,
+}
+
+impl From<PastEnd> for Error {
+    ghost from_gives = { λ _ error. error ≡ BadCursor };
+
+    fn from(_: PastEnd) -> Error {
+        Error::BadCursor
+    }
 }
 
 impl Formatter {
@@ -37,14 +53,16 @@ impl Formatter {
         Formatter::new(WriterBackend::counting(0), settings)
     }
 
-    // A fresh formatter that writes from a cursor in a buffer; 9 where the cursor is past its end.
-    pub fn writing(buf: &[u8], at: usize, settings: Settings) -> Result<Formatter, Error>
+    // A fresh formatter that writes from a cursor in a buffer; where the cursor is past its end, 9, and
+    // the formatter in the error.
+    pub fn writing(buf: &[u8], at: usize, settings: Settings) -> Result<Formatter, PastEnd>
         ensures { view_new result buf.now ≡ begun buf.now at settings }
     {
+        let formatter = Formatter::new(WriterBackend::writing(at), settings);
         if buf.len() < at {
-            return Err(Error::BadCursor);
+            return Err(PastEnd { formatter });
         }
-        Ok(Formatter::new(WriterBackend::writing(at), settings))
+        Ok(formatter)
     }
 
     // The flags in force.

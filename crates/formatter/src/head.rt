@@ -44,7 +44,7 @@ impl Head {
 
     // How many entries are open: 64 where the depth says more.
     pub fn open_entries(&self) -> usize
-        ensures by_index { (s : List Entry) (b : List ℕ) → length s ≡ 64 → result ≡ length (view self.now s b).stack }
+        ensures by_index { (s : List Entry) (b : List ℕ) → result ≤ length s → result ≡ length (view self.now s b).stack }
         ensures value { result ≡ depth_of self.now.depth }
         ensures at_most { result ≤ 64 }
     {

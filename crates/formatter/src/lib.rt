@@ -12,5 +12,5 @@ mod writes;
 
 pub use dispatch::Op;
 pub use entries::Entry;
-pub use formatter::Formatter;
+pub use formatter::{Formatter, PastEnd};
 pub use head::Head;

@@ -3,7 +3,6 @@ use crate::play::play;
 use calls::Settings;
 use error::Error;
 use formatter::Formatter;
-use writer_backend::WriterBackend;
 
 // The answer is None for what is no call.
 #[derive(Clone, Copy)]
@@ -28,9 +27,9 @@ impl Played {
                 fmt,
                 answer: Some(Ok(())),
             },
-            Err(error) => Played {
-                fmt: Formatter::new(WriterBackend::writing(at), settings),
-                answer: Some(Err(error)),
+            Err(past) => Played {
+                fmt: past.formatter,
+                answer: Some(Err(Error::from(past))),
             },
         }
     }

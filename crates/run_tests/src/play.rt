@@ -4,7 +4,6 @@ use crate::print::Printed;
 use calls::Settings;
 use compute_str_length::{CountedCall, count_call_then_len, count_run_then_add_len};
 use encoded_call::op_at;
-use error::Error;
 use formatter::{Entry, Head};
 use formatting::{FormattingFlags, bit};
 use lines::part;
@@ -34,8 +33,7 @@ pub(crate) fn put_added(run: Run, out: &mut Printed) {
     out.decimal(r.total as u64, b'\n');
 }
 
-// The call that five words are, counted on from a total by the counter that is lent. What is no call
-// meets 8, and leaves all as it is.
+// The call that five words are, counted on from a total by the counter that is lent.
 fn count_call(
     total: usize,
     head: Head,
@@ -45,14 +43,7 @@ fn count_call(
 ) -> CountedCall {
     let rest = part(text, words[1] as usize, text.len());
     let own = slice_up_to_len(rest, words[2] as usize);
-    let Some(op) = op_at(words[0], words[3], words[4]) else {
-        return CountedCall {
-            answer: Err(Error::WrongCall),
-            head,
-            total,
-            empty: total == 0,
-        };
-    };
+    let op = op_at(words[0], words[3], words[4]);
     count_call_then_len(total, head, stack, op, own)
 }
 
