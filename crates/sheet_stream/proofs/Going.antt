@@ -1,6 +1,7 @@
 -- The sheet as a program that reads and writes: what it has written, and what then remains, is what is to be printed for what it has read.
 use borrow.Author.Rules.{rules}
-use Rattle.std.specs.Prelude.{Option}
+use Rattle.std.specs.Prelude.{Option, Result, Ok, Err, OnOk}
+use Rattle.std.specs.Result.{is_ok}
 use Rattle.std.proofs.Common.{◌≡◌, refl, sym, ◌∙◌, ap, Bool, true, false, ℕ, List, [], ◌++◌, take}
 use Rattle.std.specs.Io.KnownBytes.{Consumes, Appends}
 use mathlib.Core.List.{append_assoc, append-nil}
@@ -12,7 +13,7 @@ use Rattle.line_input.proofs.Going.{consumes_none, consumes-then, appends_none, 
 use Rattle.sheet.specs.Printed.{printed}
 use Rattle.sheet_stream.specs.Left.{Stage, first, over, left}
 use Rattle.sheet_stream.specs.declared.Stream.{Stream}
-use Rattle.sheet_stream.specs.Step.{at_of, is_over, Stepped, emptied_of}
+use Rattle.sheet_stream.specs.Step.{run_stage, at_of, run_over, Stepped, emptied_of, after_write}
 use Rattle.sheet_stream.proofs.Playing.{lines-clipped}
 
 -- where the bytes are known: those that were read and written since the loop began, and what is still to be written, if the input goes on with rest
@@ -29,6 +30,10 @@ going-begins R W a e = rw e (record { read = []; written = []; consumes = consum
 -- one that waits may go on
 steps-open : (a b : At Stage) (w : Bool) → w ≡ true → Steps left max_line w a b → b.ended ≡ false
 steps-open a b w e t = search rules
+
+-- a run that goes on no more is over
+over-stage : (h : Stream) (b : List ℕ) → run_over h ≡ true → run_stage h b ≡ over
+over-stage h b e = search rules
 
 module _ (R₀ R W₀ W : Option (List ℕ)) (a : At Stage) (g : Going R₀ R W₀ W a) where
   going-writes : (W' : Option (List ℕ)) → Appends W W' a.pending → Going R₀ R W₀ W' (record a { pending = [] })
@@ -56,8 +61,8 @@ module _ (R₀ R W₀ W : Option (List ℕ)) (h r : Stream) (waits : Bool) (spac
     pub turn-writes : Going R₀ R W₀ W' (at_of (emptied_of r) space b' out')
     turn-writes = going-writes R₀ R W₀ W (at_of r space b' out') turn-steps W' p
 
-    pub turn-ends : is_over r.state ≡ true → (read : List ℕ) × Consumes R₀ R read × Appends W₀ W' (printed read)
-    turn-ends e = going-ends R₀ R W₀ W' (at_of (emptied_of r) space b' out') turn-writes (search rules) refl
+    pub turn-ends : run_over r ≡ true → (read : List ℕ) × Consumes R₀ R read × Appends W₀ W' (printed read)
+    turn-ends e = going-ends R₀ R W₀ W' (at_of (emptied_of r) space b' out') turn-writes (over-stage r b' e) refl
 
     pub turn-reads : waits ≡ true → (R' : Option (List ℕ)) (k : Reader) (c : List ℕ) (m : More r.reader k space c) → Consumes R R' m.piece → Going R₀ R' W₀ W' (at_of (record r { reader = k; printed = 0 }) c b' out')
     turn-reads e R' k c m q =
@@ -69,3 +74,13 @@ module _ (R₀ R W₀ W : Option (List ℕ)) (h r : Stream) (waits : Bool) (spac
           appends = turn-writes.appends;
           right = λ rest f. rw (m.bytes, m.skips, append_assoc (held_of r.reader space) m.piece rest, append_assoc turn-writes.read m.piece rest) (turn-writes.right (m.piece ++ rest) (λ x. cc));
         }
+
+  -- where the write x was done or failed, and the run goes on no more
+  pub write-ends : (W' : Option (List ℕ)) {A E : Type 0} (x : Result A E) → OnOk x (Appends W W' (take r.printed out')) → run_over (after_write r (is_ok x)) ≡ true → OnOk x ((read : List ℕ) × Consumes R₀ R read × Appends W₀ W' (printed read))
+  write-ends W' (Ok v) p e = turn-ends W' p e
+  write-ends W' (Err v) p e = tt
+
+-- a run that goes on after the write x was not halted by it: s is what is left after it, d says that it was done, and o whether the run is over
+pub goes-written : {A E P : Type 0} (r s : Stream) (d o : Bool) (x : Result A E) → OnOk x P → d ≡ is_ok x → s ≡ after_write r d → o ≡ run_over s → o ≡ false → (s ≡ emptied_of r) × P
+goes-written r s d o (Ok v) p e f u n = (f ∙ ap (after_write r) e, p)
+goes-written r s d o (Err v) p e f u n = let h : s ≡ after_write r false = f ∙ ap (after_write r) e in let a : o ≡ true = u ∙ ap run_over h in cc

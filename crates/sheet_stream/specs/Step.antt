@@ -1,5 +1,5 @@
 -- Document 01, 'The call sheet': a step of the program, on the lent bytes.
-use Rattle.std.specs.Prelude.{Bool, true, false, ◌||◌, ◌≡◌, List, ℕ, ◌+◌, ◌^◌, ◌≤◌, ◌<◌, leb, length, take}
+use Rattle.std.specs.Prelude.{Bool, true, false, cond, ◌||◌, ◌≡◌, List, ℕ, ◌+◌, ◌^◌, ◌≤◌, ◌<◌, leb, length, take}
 use Rattle.lines.specs.Lines.{max_line}
 use Rattle.lines.specs.Played.{At, standing, Steps}
 use Rattle.sheet_line.specs.Begin.{max_size}
@@ -7,11 +7,15 @@ use Rattle.sheet.specs.Sheet.{max_end}
 use Rattle.sheet_stream.specs.declared.State.{State}
 use Rattle.sheet_stream.specs.declared.State.TheVariants.{First, Later, Over}
 use Rattle.sheet_stream.specs.declared.Stream.{Stream}
-use Rattle.sheet_stream.specs.Left.{Stage, left, stage_of}
+use Rattle.sheet_stream.specs.Left.{Stage, over, left, stage_of}
+
+-- 'The call sheet': the stage of the run: a run that was halted is over, whatever sheet it holds
+abbrev pub run_stage : Stream → List ℕ → Stage
+run_stage h b = cond h.is_halted over (stage_of h.state b)
 
 -- 'The call sheet': where the program stands, of what the code holds and the lent bytes
 abbrev pub at_of : Stream → List ℕ → List ℕ → List ℕ → At Stage
-at_of h space b out = standing (stage_of h.state b) h.reader space (take h.printed out)
+at_of h space b out = standing (run_stage h b) h.reader space (take h.printed out)
 
 -- 'The call sheet': the size of a run's buffer, where there is a run
 abbrev pub size_of : State → ℕ
@@ -43,7 +47,7 @@ pub record Ready (h : Stream) (b out : List ℕ) : Type 0 where
 
 -- 'The call sheet': with all that is held, and the run does not go on
 abbrev pub halted_of : Stream → Stream
-halted_of h = record h { state = Over }
+halted_of h = record h { is_halted = true }
 
 -- 'The call sheet': what is not ready is left as it is, and does not go on
 pub record Halts (h r : Stream) (waits : Bool) (b out b' out' : List ℕ) : Type 0 where
@@ -58,19 +62,28 @@ pub record Stepped (h r : Stream) (waits : Bool) (space b out b' out' : List ℕ
   pub onward : Onward h.state r.state
   pub room : r.printed ≤ h.printed + max_end max_size
 
--- 'The call sheet': whether the run goes on no more
+-- 'The call sheet': whether a sheet goes on no more
 abbrev pub is_over : State → Bool
 is_over First = false
 is_over (Later k n s) = false
 is_over Over = true
 
+-- 'The call sheet': whether the run goes on no more: it was halted, or its sheet goes on no more
+abbrev pub run_over : Stream → Bool
+run_over h = h.is_halted || is_over h.state
+
 -- 'The call sheet': what is printed is to be written before more is awaited, at the end, and where there is much of it
 abbrev pub is_due : Stream → Bool → Bool
-is_due h waits = waits || (is_over h.state || leb 32768 h.printed)
+is_due h waits = waits || (run_over h || leb 32768 h.printed)
 
 -- 'The call sheet': what was printed is written
 abbrev pub emptied_of : Stream → Stream
 emptied_of h = record h { printed = 0 }
+
+-- 'The call sheet': after a write that was done or failed; a run whose write failed does not go on
+abbrev pub after_write : Stream → Bool → Stream
+after_write h true = emptied_of h
+after_write h false = halted_of (emptied_of h)
 
 -- 'The call sheet': what is ready stays ready while lines have numbers of 64 bits: at once where nothing is due, in a buffer of 65,536 bytes, and in any case once what is printed is written (proved in proofs/Playing)
 abbrev pub StaysReady : Type 0

@@ -11,7 +11,7 @@ ghost use Rattle.sheet_line.specs.Begin.{max_size};
 ghost use Rattle.sheet.specs.Sheet.{max_row, max_end};
 ghost use Rattle.sheet_stream.specs.declared.State.TheVariants.{First};
 ghost use Rattle.sheet_stream.specs.Left.{first, left, stage_of, Answers};
-ghost use Rattle.sheet_stream.specs.Step.{at_of, Sized, Onward, Ready, Halts, Stepped, is_over, is_due};
+ghost use Rattle.sheet_stream.specs.Step.{at_of, Sized, Onward, Ready, Halts, Stepped, is_over, run_over, is_due, after_write};
 
 use calls::Settings;
 use lines::{MAX_LINE, Reader};
@@ -36,14 +36,16 @@ pub enum State {
     Over,
 }
 
-// What is held between steps: what is read of the input, where the sheet stands, and how many bytes
-// are printed and not yet written. They stand in a buffer that is lent to each step: its owner writes
-// it out between two.
+// What is held between steps: what is read of the input, where the sheet stands, how many bytes are
+// printed and not yet written, and whether the run was halted: it goes on no more, and holds what it
+// held. The bytes printed stand in a buffer that is lent to each step: its owner writes it out
+// between two.
 #[derive(Clone, Copy)]
 pub struct Stream {
     pub reader: Reader,
     pub state: State,
     pub printed: usize,
+    pub is_halted: bool,
 }
 
 // Zeros at the beginning.
@@ -144,7 +146,7 @@ impl State {
         within && MAX_SIZE <= buf.len()
     }
 
-    // Whether the run goes on no more.
+    // Whether the sheet goes on no more. A run that was halted keeps its sheet: `Stream::is_over`.
     pub fn is_over(&self) -> bool
         ensures { result ≡ is_over self.now }
     {
@@ -162,6 +164,7 @@ impl Stream {
             reader: Reader::new(),
             state: State::First,
             printed: 0,
+            is_halted: false,
         }
     }
 
@@ -172,7 +175,8 @@ impl Stream {
         self.state.is_sized(buf) && MAX_PRINTED <= out.len().saturating_sub(self.printed)
     }
 
-    // One step of what is ready: whether more is awaited.
+    // One step of what is ready: whether more is awaited. A run that was halted takes lines, and
+    // prints nothing.
     fn step_on(
         &mut self,
         space: &[u8],
@@ -184,11 +188,17 @@ impl Stream {
         ensures { Stepped self.old self.new result space.now buf.old out.old buf.new out.new }
     {
         if let Some(line) = self.reader.next_line(space, MAX_LINE) {
+            if self.is_halted {
+                return false;
+            }
             self.printed = self.state.answer(line, buf, text, out, self.printed);
             return false;
         }
         if !self.reader.ended {
             return true;
+        }
+        if self.is_halted {
+            return false;
         }
         self.printed = self.state.end(buf, out, self.printed);
         self.state = State::Over;
@@ -196,8 +206,8 @@ impl Stream {
     }
 
     // One step: a line is answered, or there is none and more is awaited, or the input has ended and
-    // the last line is printed. What cannot be stepped from does not go on. Gives whether more is
-    // awaited.
+    // the last line is printed. What cannot be stepped from does not go on, and keeps all that it
+    // holds. Gives whether more is awaited.
     pub fn step(
         &mut self,
         space: &[u8],
@@ -211,7 +221,7 @@ impl Stream {
             Halts self.old self.new result buf.old out.old buf.new out.new }
     {
         if !self.is_ready(buf, out) {
-            self.state = State::Over;
+            self.is_halted = true;
             return false;
         }
         self.step_on(space, buf, text, out)
@@ -222,6 +232,21 @@ impl Stream {
     pub fn is_due(&self, waits: bool) -> bool
         ensures { result ≡ is_due self.now waits }
     {
-        waits || self.state.is_over() || 32768 <= self.printed
+        waits || self.is_over() || 32768 <= self.printed
+    }
+
+    // Whether the run goes on no more: it was halted, or its last line is answered.
+    pub fn is_over(&self) -> bool
+        ensures { result ≡ run_over self.now }
+    {
+        self.is_halted || self.state.is_over()
+    }
+
+    // After a write: nothing is left to be written; a run whose write failed does not go on.
+    pub fn emptied(&mut self, done: bool)
+        ensures { self.new ≡ after_write self.old done }
+    {
+        self.printed = 0;
+        self.is_halted |= !done;
     }
 }

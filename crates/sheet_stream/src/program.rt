@@ -28,10 +28,10 @@ pub fn play<R: Read, W: Write>(input: &mut R, output: &mut W) -> Result<()>
         if !stream.is_due(waits) {
             continue;
         }
-        output.write_all(slice_up_to_len(&out, stream.printed))?;
-        stream.printed = 0;
-        if stream.state.is_over() {
-            return Ok(());
+        let written = output.write_all(slice_up_to_len(&out, stream.printed));
+        stream.emptied(written.is_ok());
+        if stream.is_over() {
+            return written;
         }
         if !waits {
             continue;

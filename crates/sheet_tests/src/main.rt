@@ -13,18 +13,22 @@ use std::rt::Files;
 use str_writer::write_ascii;
 use utils::slice_up_to_len;
 
-// How many bytes are left to read.
+// How many bytes are left to read, at most 131,072.
 fn unread<R: Read>(input: &mut R) -> u64 {
-    let mut space = [0u8; 65536];
-    let mut n: u64 = 0;
-    for _ in 0..u64::MAX {
-        let more = input.read(&mut space).unwrap_or(0);
+    let mut space = [0u8; 131072];
+    let mut n = 0;
+    // Each turn reads a byte or more, so that so many turns are enough.
+    for _ in 0..space.len() {
+        if n >= space.len() {
+            break;
+        }
+        let more = input.read(&mut space[n..]).unwrap_or(0);
         if more == 0 {
             break;
         }
-        n = n.saturating_add(more as u64);
+        n += more;
     }
-    n
+    n as u64
 }
 
 // Lays a text, a name and a line feed.
