@@ -10,6 +10,10 @@ use Rattle.pargument.specs.Integer.{start_of, array_of, Ends}
 pub digits_fit : (f : ℕ → ℕ) (n : ℕ) → n < 2 ^ 64 → (length (digit_text f 2 n) ≤ 64) × (length (digit_text f 10 n) ≤ 20) × (length (digit_text f 16 n) ≤ 16)
 digits_fit f n h = (text-short 2 (lit≤ tt) f 63 n h, text-short 10 (lit≤ tt) f 19 n (omega arith), text-short 16 (lit≤ tt) f 15 n h)
 
+-- the bytes that a text of at most k leaves before it, for a prefix or a sign
+pub left_of : {size k : ℕ} {array : List ℕ} {at : ℕ} {text : List ℕ} → Ends size array at text → length text ≤ k → size - k ≤ at
+left_of h l = omega (arith, h.whole)
+
 -- what the contracts say of the start and the array
 pub settled : {size : ℕ} {array : List ℕ} {at : ℕ} {text : List ℕ} → Ends size array at text → (at ≡ start_of size text) × (array ≡ array_of size text)
 settled h = search rules

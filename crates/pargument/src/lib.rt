@@ -2,7 +2,7 @@
 // arrays (the to_start_array methods of wrapper_types/pwrapper.rs).
 #![tactic(auto)]
 
-ghost use Rattle.std.specs.Prelude.{◌≡◌, ◌≤◌, ◌<◌, ◌∷◌, List, ℕ, length};
+ghost use Rattle.std.specs.Prelude.{◌≡◌, ◌≤◌, length, replicate};
 ghost use Rattle.formatting.specs.Hex.{hex_digit};
 ghost use Rattle.pwrapper.specs.Digits.{digit_text};
 ghost use Rattle.pwrapper.specs.Number.{hex_text, bin_text};
@@ -39,36 +39,25 @@ pub fn to_integer<I: PrimitiveInteger>(x: I) -> Integer
 }
 
 impl<const N: usize> StartAndArray<N> {
-    // The digits of n in a base, at the end of an array that has room for them: by a loop that gives
-    // their start, as document 01 has it.
-    fn digits<const BASE: u64>(n: u64, hex_fmt: HexFormatting) -> StartAndArray<N>
+    // Lays the digits of n in a base at the end of an array of zeros that has room for them, and gives
+    // their start: by a loop, as document 01 has it. The array is its caller's, who stores a prefix or
+    // a sign in it too, before it is copied: stored in a copy, they would make the next copy wait.
+    fn digits<const BASE: u64>(array: &mut [u8; N], n: u64, hex_fmt: HexFormatting) -> usize
         requires base { (2 ≤ BASE) × (BASE ≤ 16) }
         requires room { length (digit_text (hex_digit hex_fmt) BASE n) ≤ N }
-        ensures { Ends N result.array result.start (digit_text (hex_digit hex_fmt) BASE n) }
+        requires zeros { array.old ≡ replicate N 0 }
+        ensures { Ends N array.new result (digit_text (hex_digit hex_fmt) BASE n) }
     {
-        let mut array = [0u8; N];
         let mut at = N;
         let mut rest = n;
-        let start = loop {
+        loop {
             at -= 1;
             array[at] = hex_as_ascii((rest % BASE) as u8, hex_fmt);
             rest /= BASE;
             if rest == 0 {
                 break at;
             }
-        };
-        StartAndArray { start, array }
-    }
-
-    // The text with one byte before it.
-    fn after(self, byte: u8) -> StartAndArray<N>
-        requires { (0 < self.start) × (self.start ≤ N) }
-        ensures { (t : List ℕ) → Ends N self.entry.array self.entry.start t → Ends N result.array result.start (byte ∷ t) }
-    {
-        let start = self.start - 1;
-        let mut array = self.array;
-        array[start] = byte;
-        StartAndArray { start, array }
+        }
     }
 }
 
@@ -88,33 +77,54 @@ impl Integer {
     pub fn to_start_array_binary(self, flags: FormattingFlags) -> StartAndArray<66>
         ensures { (result.start ≡ start_of 66 (bin_text flags (integer_bits self))) × (result.array ≡ array_of 66 (bin_text flags (integer_bits self))) }
     {
-        let digits = StartAndArray::<66>::digits::<2>(self.bits(), flags.hex_fmt);
+        let mut array = [0u8; 66];
+        let start = StartAndArray::<66>::digits::<2>(&mut array, self.bits(), flags.hex_fmt);
         if flags.is_alternate {
-            return digits.after(b'b').after(b'0');
+            array[start - 1] = b'b';
+            array[start - 2] = b'0';
+            return StartAndArray {
+                start: start - 2,
+                array,
+            };
         }
-        digits
+        StartAndArray { start, array }
     }
 
     // The hexadecimal text at the end of an array, with its prefix where the flags say so.
     pub fn to_start_array_hexadecimal(self, flags: FormattingFlags) -> StartAndArray<18>
         ensures { (result.start ≡ start_of 18 (hex_text flags (integer_bits self))) × (result.array ≡ array_of 18 (hex_text flags (integer_bits self))) }
     {
-        let digits = StartAndArray::<18>::digits::<16>(self.bits(), flags.hex_fmt);
+        let mut array = [0u8; 18];
+        let start = StartAndArray::<18>::digits::<16>(&mut array, self.bits(), flags.hex_fmt);
         if flags.is_alternate {
-            return digits.after(b'x').after(b'0');
+            array[start - 1] = b'x';
+            array[start - 2] = b'0';
+            return StartAndArray {
+                start: start - 2,
+                array,
+            };
         }
-        digits
+        StartAndArray { start, array }
     }
 
     // The decimal text at the end of an array.
     pub fn to_start_array_display(self) -> StartAndArray<21>
         ensures { (result.start ≡ start_of 21 (integer_display self)) × (result.array ≡ array_of 21 (integer_display self)) }
     {
-        let digits = StartAndArray::<21>::digits::<10>(self.unsigned, HexFormatting::Upper);
+        let mut array = [0u8; 21];
+        let start = StartAndArray::<21>::digits::<10>(
+            &mut array,
+            self.unsigned,
+            HexFormatting::Upper,
+        );
         if self.is_negative {
-            return digits.after(b'-');
+            array[start - 1] = b'-';
+            return StartAndArray {
+                start: start - 1,
+                array,
+            };
         }
-        digits
+        StartAndArray { start, array }
     }
 
     // The decimal text too: the debug form in decimal is the display form.

@@ -105,6 +105,9 @@ module _ (b : ℕ) (b2 : 2 ≤ b) where
     unfolding digit_text
     text-length n = simp length-map
 
+    pub text_pow : (k n : ℕ) → b ^ k ≤ n → length (digit_text f b n) ≡ k + length (digit_text f b (n / b ^ k))
+    text_pow k n h = simp text-length (digits_pow k n h)
+
     pub text-one : (n : ℕ) → n < b → length (digit_text f b n) ≡ 1
     text-one n h = rw (text-low n h)
 

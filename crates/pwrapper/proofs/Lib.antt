@@ -3,3 +3,4 @@ pub mod Escapes
 pub mod Lengths
 pub mod Ranges
 pub mod Shortest
+pub mod Sign

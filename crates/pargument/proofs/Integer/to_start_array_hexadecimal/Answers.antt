@@ -1,13 +1,22 @@
-use Rattle.std.proofs.Common.{arith}
-use Rattle.formatting.specs.Hex.{hex_digit}
-use Rattle.pargument.proofs.Laying.{digits_fit}
+use Rattle.std.proofs.Common.{refl, arith, lit≤}
+use Rattle.std.proofs.Math.Nat.{le_trans}
+use Rattle.pargument.proofs.Laying.{digits_fit, left_of, put, settled}
 use Rattle.pargument.proofs.Integer.to_start_array_hexadecimal.Goals as goal
 
-pub digits-digits-requires : goal.digits-digits-requires
-digits-digits-requires c = omega (arith, digits_fit (hex_digit c.args.flags.hex_fmt) c.bits.result (omega arith))
+pub digits-start-requires : goal.digits-start-requires
+digits-start-requires c = (omega arith, (omega arith, (le_trans (digits_fit _ _ (omega arith)).2 (lit≤ tt), refl)))
 
-pub after-requires : goal.after-requires
-after-requires c = omega (arith, digits_fit (hex_digit c.args.flags.hex_fmt) c.bits.result (omega arith))
+pub overflow_sub-array : goal.overflow_sub-array
+overflow_sub-array c = omega (arith, left_of c.digits-start.ensures (digits_fit _ _ (omega arith)).2)
 
-pub after-requires-then-flags : goal.after-requires-then-flags
-after-requires-then-flags c = omega (arith, (c.after.ensures _ c.digits-digits.ensures).whole, digits_fit (hex_digit c.args.flags.hex_fmt) c.bits.result (omega arith))
+pub overflow_sub-array-then-flags : goal.overflow_sub-array-then-flags
+overflow_sub-array-then-flags c = omega (arith, left_of c.digits-start.ensures (digits_fit _ _ (omega arith)).2)
+
+pub overflow_sub-result : goal.overflow_sub-result
+overflow_sub-result c = omega (arith, left_of c.digits-start.ensures (digits_fit _ _ (omega arith)).2)
+
+pub returns-then-flags : goal.returns-then-flags
+returns-then-flags c =
+    let left = left_of c.digits-start.ensures (digits_fit _ _ (omega arith)).2 in
+    let e = put _ (omega (arith, left)) (put _ (omega (arith, left)) c.digits-start.ensures) in
+    rw (c.if-flags.true, ← c.bits.ensures) (settled e)

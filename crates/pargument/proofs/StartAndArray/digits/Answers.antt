@@ -1,4 +1,5 @@
-use Rattle.std.proofs.Common.{◌%◌, ◌<◌, arith, mod-eq_of_lt}
+use Rattle.std.proofs.Common.{arith, ap, ◌∙◌}
+use Rattle.formatting.specs.Hex.{hex_digit}
 use Rattle.pargument.proofs.Laying.{laying_place, laying_step, laying_end}
 use Rattle.pargument.proofs.StartAndArray.digits.Goals as goal
 
@@ -11,12 +12,9 @@ bounds-array-at g c = omega (arith, laying_place c.requires.base.0 c.loop-rest.i
 pub loop-rest-smaller : goal.loop-rest-smaller
 loop-rest-smaller g c = omega (arith, laying_place c.requires.base.0 c.loop-rest.invariant)
 
+-- the digit laid is that of the remainder, whatever number below sixteen the code computes it as
 pub loop-rest-preserved : goal.loop-rest-preserved
-loop-rest-preserved g c =
-    let below : c.loop-rest.rest % g.row.BASE < 16 = omega arith in
-    laying_step c.requires.base.0 c.loop-rest.invariant c.hex_as_ascii.result (rw (mod-eq_of_lt below) at c.hex_as_ascii.ensures) c.if-rest-eq0.false
+loop-rest-preserved g c = laying_step c.requires.base.0 c.loop-rest.invariant _ (c.hex_as_ascii.ensures ∙ ap (hex_digit c.args.hex_fmt) (omega arith)) c.if-rest-eq0.false
 
 pub returns : goal.returns
-returns g c =
-    let below : c.loop-rest.rest % g.row.BASE < 16 = omega arith in
-    laying_end c.requires.base.0 c.loop-rest.invariant c.hex_as_ascii.result (rw (mod-eq_of_lt below) at c.hex_as_ascii.ensures) c.if-rest-eq0.true
+returns g c = laying_end c.requires.base.0 c.loop-rest.invariant _ (c.hex_as_ascii.ensures ∙ ap (hex_digit c.args.hex_fmt) (omega arith)) c.if-rest-eq0.true

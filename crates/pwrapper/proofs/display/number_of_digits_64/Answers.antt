@@ -1,0 +1,10 @@
+use native.Mathlib.Omega.{arith}
+use Rattle.std.specs.Prelude.{◌/◌, ◌^◌}
+use Rattle.pwrapper.proofs.Lengths.{decimal-64, decimal-more}
+use Rattle.pwrapper.proofs.display.number_of_digits_64.Goals as goal
+
+pub overflow_add-result : goal.overflow_add-result
+overflow_add-result c = omega (arith, decimal-64 (c.args.n / 10 ^ 12) (omega arith), c.number_of_digits_32.ensures)
+
+pub returns-then-n-ge1000000000000 : goal.returns-then-n-ge1000000000000
+returns-then-n-ge1000000000000 c = decimal-more 12 c.args.n c.number_of_digits_32.result (omega arith) c.number_of_digits_32.ensures
