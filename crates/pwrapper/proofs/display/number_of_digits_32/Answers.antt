@@ -1,10 +1,6 @@
-use native.Mathlib.Omega.{arith}
-use Rattle.std.specs.Prelude.{◌/◌, ◌^◌}
-use Rattle.pwrapper.proofs.Lengths.{decimal-64, decimal-more}
+use Rattle.pwrapper.proofs.Lengths.{reached, decimal-reached}
 use Rattle.pwrapper.proofs.display.number_of_digits_32.Goals as goal
 
-pub overflow_add-result : goal.overflow_add-result
-overflow_add-result c = omega (arith, decimal-64 (c.args.n / 10 ^ 8) (omega arith), c.number_of_digits_8.ensures)
-
-pub returns-then-n-ge100000000 : goal.returns-then-n-ge100000000
-returns-then-n-ge100000000 c = decimal-more 8 c.args.n c.number_of_digits_8.result (omega arith) c.number_of_digits_8.ensures
+pub returns : goal.returns
+unfolding reached
+returns c = rw (c.from.ensures, c.from-2.ensures, c.from-3.ensures, c.from-4.ensures, c.from-5.ensures, c.from-6.ensures, c.from-7.ensures, c.from-8.ensures, c.from-9.ensures) (decimal-reached 9 c.args.n c.if-n-ge10000000000.false)
